@@ -1,0 +1,4 @@
+pub mod Booleans
+pub mod Sequences
+pub mod Properties
+pub mod Verdicts
