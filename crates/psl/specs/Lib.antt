@@ -4,4 +4,4 @@ pub mod Properties
 pub mod Verdicts
 pub mod Attempts
 pub mod Marks
-pub mod Model
+pub mod Decide

@@ -8,7 +8,7 @@ use mathlib.Core.List.{List, [], _∷_, _++_, map, append-nil, append-assoc, map
 use mathlib.Core.Logic.{_⊎_, inl, inr}
 use lib.ListN.{length, take, drop, getD, length-append, take-append-drop, List·getD-append}
 use lib.Seq.{take-append-le, drop-append-le, take-append-add, length-take-le, take-take, take-nil, take-all, take-length}
-use Rattle.psl.specs.Model.Tells.{Tells, does, doesnt}
+use Rattle.psl.specs.Decide.Tells.{Tells, does, doesnt}
 use Rattle.psl.specs.Booleans.{Boolean, Letter, sample, holds}
 use Rattle.psl.specs.Sequences.{Sequence}
 use Rattle.psl.specs.Sequences.{Matches}

@@ -55,14 +55,14 @@ fails-sample : (b : Boolean) (w : List ℕ) (k : ℕ) → k < length w → ¬ Sa
 fails-sample b w k l n = ⊎-elim (λ m. absurd (n (meets-sample b w k m))) (λ f. f) (says b w k l)
 
 -- Followed by letters T.
-continues-open : {r : Sequence} {w : List ℕ} → Continues r w → Open r w 0
+pub continues-open : {r : Sequence} {w : List ℕ} → Continues r w → Open r w 0
 continues-open {r} {w} h = go (h .count) (h .some) (h .match)
   where
     go : (m : ℕ) → 1 ≤ m → Matches r (letters w ++ tops m) → Open r w 0
     go zero l x = absurd (omega arith)
     go (suc m) l x = record { more = m; match = x }
 
-open-continues : {r : Sequence} {w : List ℕ} → Open r w 0 → Continues r w
+pub open-continues : {r : Sequence} {w : List ℕ} → Open r w 0 → Continues r w
 open-continues h = record { count = suc (h .more); some = omega arith; match = h .match }
 
 -- The first suc j samples are hopeless just if the attempt at 0 is dead at j.

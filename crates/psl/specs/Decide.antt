@@ -1,0 +1,4 @@
+-- A decision procedure for the definitions, proved exact. Nothing here has to be believed.
+pub mod Tells
+pub mod Runs
+pub mod Properties
