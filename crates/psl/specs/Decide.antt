@@ -2,3 +2,5 @@
 pub mod Tells
 pub mod Runs
 pub mod Properties
+pub mod Search
+pub mod Verdicts

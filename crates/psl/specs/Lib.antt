@@ -5,3 +5,5 @@ pub mod Verdicts
 pub mod Attempts
 pub mod Marks
 pub mod Decide
+pub mod Laws
+pub mod StarredRuns
