@@ -7,3 +7,4 @@ pub mod Marks
 pub mod Decide
 pub mod Laws
 pub mod StarredRuns
+pub mod Model
