@@ -1,17 +1,18 @@
 -- The laws of demand 3, over Breaks, Secures and Right themselves: what may be relied on, whatever the property and the samples.
 use Prim.Native.Nat.{ℕ, suc, _≤_, _<_}
 use native.Mathlib.Omega.{arith}
-use native.Mathlib.Decide.{decLe, decLt}
+use native.Mathlib.Decide.{decLe}
 use mathlib.Core.Path.{_≡_, refl, sym, _∙_, ap}
 use mathlib.Core.List.{List, [], _++_}
 use lib.ListN.{length, take, drop, length-append, take-append-drop}
 use lib.Seq.{take-append-le, take-take}
 use Rattle.psl.specs.Properties.{Property, Breaks, Secures}
 use Rattle.psl.specs.Verdicts.{Verdict, broken, settled, pending, Shortest, NoStretch, Right, is-broken, is-settled, is-pending}
-use Rattle.psl.specs.Attempts.Grow as Index
-use Rattle.psl.specs.Attempts.Same.{breaks-same, secures-same}
-use Rattle.psl.specs.Decide.Properties.{tells-breaks, tells-secures}
-use Rattle.psl.specs.Decide.Search.{Search, found, nowhere, search}
+use Rattle.psl.specs.Cases.{shortest-one}
+use Rattle.psl.specs.Proof.Attempts.Grow as Index
+use Rattle.psl.specs.Proof.Attempts.Same.{breaks-same, secures-same}
+use Rattle.psl.specs.Proof.Decide.Properties.{tells-breaks, tells-secures}
+use Rattle.psl.specs.Proof.Decide.Search.{Search, found, nowhere, search}
 
 -- The empty list neither breaks nor secures anything.
 pub empty-breaks-nothing : (f : Property) → ¬ Breaks f []
@@ -45,12 +46,6 @@ pub stretches-agree : (f : Property) (w : List ℕ) (n m : ℕ) → Breaks f (ta
 stretches-agree f w n m h k = elim (decLe n m) [
   | yes l ↦ never-both f (take m w) (take-on (breaks-on f) w l h) k
   | no l ↦ never-both f (take n w) h (take-on (secures-on f) w {n = m} {m = n} (omega arith) k)
-]
-
-shortest-one : {P : List ℕ → Type 0} {w : List ℕ} {n m : ℕ} → Shortest P w n → Shortest P w m → n ≡ m
-shortest-one {n = n} {m = m} p q = elim (decLt n m) [
-  | yes l ↦ absurd (q .no-shorter n l (p .holds))
-  | no l ↦ elim (decLt m n) [ yes l′ ↦ absurd (p .no-shorter m l′ (q .holds)) | no l′ ↦ omega arith ]
 ]
 
 -- Any two right verdicts are equal.

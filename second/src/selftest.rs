@@ -1,0 +1,205 @@
+//! Decides whether this program agrees with the runs, limits and example bytes of the document,
+//! and with what holds of the definitions at random.
+
+use crate::draft::Draft;
+use crate::judge;
+use crate::properties::{Reading, Verdict};
+use crate::random::Random;
+use crate::replay::replay;
+use crate::sequences::Word;
+use crate::table;
+use crate::trace::MOST_CYCLES;
+use crate::tree::{self, PropertyForm};
+use crate::{cases, tables, traces};
+use Verdict::{Broken, Pending, Settled};
+
+/// Nodes 0, 1, 2 are a, b, c and node 3 is false; the rows given follow, the last is the root.
+type Run = (&'static str, &'static [[u8; 4]], &'static [u32], Verdict);
+
+const RUNS: [Run; 16] = [
+    ("always a", &[[38, 0, 0, 0]], &[1, 1, 0], Broken(3)),
+    ("always a", &[[38, 0, 0, 0]], &[1, 1], Pending(2)),
+    ("next b", &[[34, 1, 0, 0]], &[1], Pending(1)),
+    ("a until b", &[[39, 0, 1, 0]], &[1, 2], Settled(2)),
+    ("a until b", &[[39, 0, 1, 0]], &[1, 0], Broken(2)),
+    ("weak {a;b}", &[[16, 0, 1, 0], [32, 4, 0, 0]], &[1, 1], Broken(2)),
+    ("weak {a;b}", &[[16, 0, 1, 0], [32, 4, 0, 0]], &[], Pending(0)),
+    ("weak {a[*]}", &[[19, 0, 0, 0], [32, 4, 0, 0]], &[0], Broken(1)),
+    ("weak {a[*]}", &[[19, 0, 0, 0], [32, 4, 0, 0]], &[1, 0], Settled(1)),
+    ("weak {a:b}", &[[17, 0, 1, 0], [32, 4, 0, 0]], &[1], Broken(1)),
+    ("weak {a;false}", &[[16, 0, 3, 0], [32, 4, 0, 0]], &[1], Pending(1)),
+    ("{a;b} |-> c", &[[16, 0, 1, 0], [40, 4, 2, 0]], &[0], Settled(1)),
+    ("{a;b} |=> c", &[[16, 0, 1, 0], [41, 4, 2, 0]], &[1, 2, 0], Broken(3)),
+    ("{a[*]} |=> b", &[[19, 0, 0, 0], [41, 4, 1, 0]], &[0], Settled(1)),
+    ("never {a;b}", &[[16, 0, 1, 0], [42, 4, 0, 0]], &[1, 1, 2], Broken(3)),
+    (
+        "always ({a} |=> weak {b;c})",
+        &[[16, 1, 2, 0], [32, 4, 0, 0], [41, 0, 5, 0], [38, 6, 0, 0]],
+        &[1, 3, 6, 0],
+        Broken(4),
+    ),
+];
+
+const EXAMPLE_TABLE: [u8; 42] = [
+    0x01, 0x00, 0x03, 0x00, 0x05, 0x00, 0x03, 0x00, 0x10, 0x00, 0x24, 0x00, 0x2A, 0x00, 0x00, 0x00,
+    0x03, 0x00, 0x00, 0x00, 0x03, 0x01, 0x00, 0x00, 0x27, 0x00, 0x01, 0x00, 0x26, 0x00, 0x00, 0x00,
+    0x22, 0x01, 0x00, 0x00, 0x02, 0x00, 0x03, 0x00, 0x04, 0x00,
+];
+const EXAMPLE_TRACE: [u8; 20] = [
+    0x01, 0x00, 0x03, 0x00, 0x02, 0x00, 0x00, 0x00, 0x0C, 0x00, 0x00, 0x00, 0x01, 0x00, 0x00, 0x00,
+    0x03, 0x00, 0x00, 0x00,
+];
+const EXAMPLE_PRINTED: &str = "cycles 2\n0 settled 2\n1 pending 2\n2 settled 2\n";
+
+fn expect<T: PartialEq + std::fmt::Debug>(what: &str, found: T, due: T) -> Result<(), String> {
+    match found == due {
+        true => Ok(()),
+        false => Err(format!("{}: found {:?}, due {:?}", what, found, due)),
+    }
+}
+
+pub fn run() -> Result<(), String> {
+    small_runs()?;
+    limits()?;
+    example()?;
+    refusal_orders()?;
+    written_files()?;
+    let mut random = Random::from_seed(1);
+    for _ in 0..10_000 {
+        no_longer_run_of_t_is_needed(&mut random)?;
+        verdicts_last(&mut random)?;
+    }
+    println!("selftest: no difference");
+    Ok(())
+}
+
+fn small_runs() -> Result<(), String> {
+    for (name, more_rows, samples, due) in RUNS {
+        let mut rows = vec![[3, 0, 0, 0], [3, 1, 0, 0], [3, 2, 0, 0], [2, 0, 0, 0]];
+        rows.extend_from_slice(more_rows);
+        let root = rows.len() as u16 - 1;
+        let table = Draft { signals: 3, rows, roots: vec![root] }.bytes();
+        let found = judge::judge(&table, &traces::bytes(3, samples), 0);
+        expect(&format!("{} on {:?}", name, samples), found, Ok(due))?;
+    }
+    Ok(())
+}
+
+/// A chain a ; a ; .. of so many cells under one property row.
+fn chain(cells: usize, property: u8) -> Vec<u8> {
+    let mut draft = Draft { signals: 1, rows: vec![[3, 0, 0, 0]], roots: Vec::new() };
+    let mut node = 0;
+    for _ in 1..cells {
+        node = draft.push([16, node, 0, 0]);
+    }
+    let root = draft.push([property, node, 0, 0]);
+    draft.roots.push(u16::from(root));
+    draft.bytes()
+}
+
+fn limits() -> Result<(), String> {
+    let refusal = |number: u64, place: u64| 65_536 * number + place;
+    let mut random = Random::from_seed(2);
+    let of_64 = tables::of_nodes(&mut random, 64).bytes();
+    let of_65 = tables::of_nodes(&mut random, 65).bytes();
+    expect("64 nodes", judge::check_answer(&of_64), 0)?;
+    expect("65 nodes", judge::check_answer(&of_65), refusal(3, 0))?;
+    expect("6 cells", judge::check_answer(&chain(6, 32)), 0)?;
+    expect("7 cells", judge::check_answer(&chain(7, 32)), refusal(11, 7))?;
+    expect("never with 63 cells", judge::check_answer(&chain(63, 42)), 0)?;
+    let table = chain(2, 32);
+    let longest = traces::bytes(1, &[0; MOST_CYCLES]);
+    let longer = traces::bytes(1, &[0; MOST_CYCLES + 1]);
+    expect("16,381 cycles", judge::judge_answer(&table, &longest, 0), (1 << 32) + 1)?;
+    expect("16,382 cycles", judge::judge_answer(&table, &longer, 0), refusal(15, 0))
+}
+
+fn example() -> Result<(), String> {
+    expect("example", judge::printed(&EXAMPLE_TABLE, &EXAMPLE_TRACE).as_str(), EXAMPLE_PRINTED)?;
+    expect("no table", judge::printed(&[], &EXAMPLE_TRACE).as_str(), "refused 1 0\n")?;
+    expect("no trace", judge::printed(&EXAMPLE_TABLE, &[]).as_str(), "refused 15 0\n")
+}
+
+/// Cases by hand where two refusals apply at once, or where one is easily placed wrongly.
+fn refusal_orders() -> Result<(), String> {
+    let answer = |rows: &[[u8; 4]], roots: &[u16]| {
+        let draft = Draft { signals: 2, rows: rows.to_vec(), roots: roots.to_vec() };
+        let found = judge::check_answer(&draft.bytes());
+        (found >> 16, found & 65_535)
+    };
+    let (a, next) = ([3, 0, 0, 0], [34, 0, 0, 0]);
+    expect("own node", answer(&[[4, 0, 0, 0]], &[0]), (7, 0))?;
+    expect("signal S", answer(&[a, [3, 2, 0, 0]], &[0]), (7, 1))?;
+    expect("7 before 8", answer(&[a, next, [5, 1, 2, 0]], &[1]), (7, 2))?;
+    expect("8 before 5 of the next row", answer(&[a, next, [5, 1, 0, 0], [0; 4]], &[1]), (8, 2))?;
+    expect("strong, any fields", answer(&[a, [49, 255, 255, 255]], &[0]), (6, 1))?;
+    expect("root 256", answer(&[a, next], &[1, 256]), (9, 1))?;
+    expect("sequence root", answer(&[a, [19, 0, 0, 0]], &[1]), (9, 0))?;
+    expect("Boolean root twice", answer(&[a], &[0, 0]), (0, 0))?;
+    expect("root twice", answer(&[a, next], &[1, 1]), (10, 1))?;
+    expect("unused", answer(&[a, next, [34, 0, 0, 0]], &[2]), (10, 1))?;
+    expect("twice in one row", answer(&[a, next, [33, 1, 1, 0]], &[2]), (10, 1))?;
+    expect("15 bytes", judge::check_answer(&[0; 15]), 65_536)?;
+    expect("16 bytes", judge::check_answer(&EXAMPLE_TABLE[..16]), 4 * 65_536)?;
+    expect("12 before 15", judge::judge_answer(&EXAMPLE_TABLE, &[], 3), 12 * 65_536)
+}
+
+/// Files are read back as they were written, and cut ones are noticed.
+fn written_files() -> Result<(), String> {
+    let mut random = Random::from_seed(3);
+    let files = [
+        (cases::cases(&mut random, 60, 60), 120),
+        (cases::checks(&mut random, 60), 60),
+        (cases::steps(&mut random, 60), 60),
+    ];
+    for (vectors, least) in files {
+        let (records, differences) = replay(&vectors.bytes)?;
+        expect("records written", records >= least, true)?;
+        expect("answers read back", differences, 0)?;
+        let cut = replay(&vectors.bytes[..vectors.bytes.len() - 1]);
+        expect("cut file noticed", cut.is_err(), true)?;
+    }
+    Ok(())
+}
+
+/// If a word is completed by more letters T than the sequence has cells, fewer do as well.
+fn no_longer_run_of_t_is_needed(random: &mut Random) -> Result<(), String> {
+    let mut maker = tables::Maker::new(random, 3);
+    let size = maker.random.between(1, 7);
+    let sequence = maker.sequence(size, 8);
+    let root = maker.draft.push([42, sequence, 0, 0]);
+    maker.root(root);
+    let draft = maker.finish();
+    let table = table::check(&draft.bytes()).map_err(|refusal| format!("{:?}", refusal))?;
+    let tree = tree::read(&table, 0);
+    let length = random.between(0, 4);
+    let samples: Vec<u64> = traces::walk(random, &draft, length)
+        .into_iter()
+        .map(|sample| tree::satisfied(&table, sample))
+        .collect();
+    if let PropertyForm::Never(r) = &tree.root.form {
+        let most = tree::cells(r) + 10;
+        let mut word = Word::new(&samples, most, tree.slots);
+        let completed = (1..=most).any(|m| word.matches(r, 0, samples.len() + m));
+        let found = word.completed_from(r, 0);
+        expect(&format!("letters T after {:?} in {:?}", samples, draft.rows), found, completed)?;
+    }
+    Ok(())
+}
+
+/// A list that breaks or secures goes on doing so when it grows.
+fn verdicts_last(random: &mut Random) -> Result<(), String> {
+    let draft = tables::framed(random);
+    let table = table::check(&draft.bytes()).map_err(|refusal| format!("{:?}", refusal))?;
+    let samples = traces::walk(random, &draft, 7);
+    let tree = tree::read(&table, 0);
+    let mut reading = Reading::new(&table, &tree, &samples);
+    let mut before = 0;
+    for n in 0..=samples.len() {
+        let code = reading.decides(n).map_or(0, |verdict| judge::verdict_answer(verdict) >> 32);
+        let lasts = before == 0 || code == before;
+        expect(&format!("{:?} on {:?} at {}", draft.rows, samples, n), lasts, true)?;
+        before = code;
+    }
+    Ok(())
+}
