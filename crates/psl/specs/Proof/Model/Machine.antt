@@ -1,25 +1,19 @@
 -- The sequence part gives the monitor its sets: marks as masks.
-use Prim.Native.Nat.{ℕ, suc, _^_, _≤_, _<_}
+use Prim.Native.Nat.{ℕ, _^_, _≤_}
 use native.Mathlib.Nat.{zero-add, zero-mul}
 use native.Mathlib.Omega.{arith}
-use mathlib.Core.Path.{_≡_, refl, sym}
+use mathlib.Core.Path.{_≡_, refl}
 use mathlib.Core.Bool.{false, _||_}
-use mathlib.Core.List.{List, [], _∷_, _++_, map, map-append}
-use lib.ListN.{length, getD, take, drop}
-use lib.Seq.{take-suc, drop-append-le, length-take-le, slice-empty, take-length}
-use lib.Dec.{T}
+use mathlib.Core.List.{List, [], _∷_, _++_}
+use lib.ListN.{length}
+use lib.Seq.{slice-empty}
 use Rattle.psl.specs.Sequences.{Sequence, cell, then, fuse, alt, star, plus}
-use Rattle.psl.specs.Booleans.{Letter, sample, T-letter, Word}
-use Rattle.psl.specs.Sequences.{Matches}
+use Rattle.psl.specs.Booleans.{Letter, sample, Word}
 use Rattle.psl.specs.Proof.Marks.Automaton as K
-use Rattle.psl.specs.Proof.Marks.Words.{Step, ends, goes, not-snoc}
-use Rattle.psl.specs.Proof.Marks.Reads.{opens, opens-back}
-use Rattle.psl.specs.Proof.Marks.Feed.{any, feed, fed, fed-back, ends-match, ends-match-back, Reach, alive, alive-back}
+use Rattle.psl.specs.Proof.Marks.Words.{ends}
+use Rattle.psl.specs.Proof.Marks.Feed.{any, feed}
 use Rattle.psl.specs.Proof.Marks.Masks.{cells, mask, unmask, mask-lt, unmask-mask}
 use Rattle.psl.specs.Proof.Marks.Linear.{or4, step-join, step-empty}
-use Rattle.psl.specs.Proof.Attempts.Index.{tops, Open}
-use Rattle.psl.specs.Properties.{RunMatches}
-use Rattle.psl.specs.Proof.Decide.Tells.{Tells, tells-iff, tells-T}
 use Rattle.psl.specs.Proof.Decide.Runs.{reads, reads-more, hit-marks, open-marks}
 use Rattle.psl.specs.Proof.Model.Auto.{Sets, Good, Follows, After, f-start, f-go, after-from}
 
