@@ -1,0 +1,12 @@
+pub mod Bit
+pub mod Next
+pub mod Fill
+pub mod Family
+pub mod At
+pub mod Rows
+pub mod Down
+pub mod Land
+pub mod Loop
+pub mod Read
+pub mod Whole
+pub mod Hand
