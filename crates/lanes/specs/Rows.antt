@@ -1,18 +1,18 @@
--- Sequences in numbered rows: how an operand reads, and what the upward pass finds of it.
-use Prim.Native.Nat.{ℕ, zero, suc, _+_, _-_, _≤_, _<_}
-use native.Mathlib.Nat.{zero-add}
+-- Sequences in numbered rows: the rows, how an operand reads, and the cells that are expected in it.
+-- A cell is named by the row and the field in which it stands, never by its place in a tree.
+-- Nothing here has to be believed.
+use Prim.Native.Nat.{ℕ, zero, suc, _<_}
 use native.Mathlib.Omega.{arith}
-use mathlib.Core.Path.{_≡_, refl, sym, _∙_, ap, ap₂}
-use mathlib.Core.Bool.{Bool, true, false, not, _&&_, _||_, or-false}
-use lib.Dec.{eqb, ltb}
-use Rattle.psl.specs.Booleans.{Boolean, Letter, satisfies}
+use mathlib.Core.Path.{_≡_, refl, sym, _∙_}
+use mathlib.Core.Bool.{Bool, true, false}
+use mathlib.Core.Logic.{⊎-elim}
+use lib.Dec.{T}
+use Rattle.psl.specs.Booleans.{Boolean, constant}
 use Rattle.psl.specs.Sequences.{Sequence, cell, then, fuse, alt, star, plus}
-use Rattle.psl.specs.Marks.Automaton.{Marks, nullable}
-use Rattle.psl.specs.Marks.Masks.{cells}
-use Rattle.psl.specs.Decide.Tells.{Tells, does, doesnt, tells-eq, tells-no, true-tells}
-use Rattle.lanes.specs.Next.{early, ends, early-then, early-fuse, and-comm}
-use Rattle.lanes.specs.Fill.{fill, own, tells-lt}
-use Rattle.lanes.specs.At.{shiftedL, Cap, exact, over, lane-shift}
+use Rattle.psl.specs.Marks.Automaton.{Marks}
+use Rattle.psl.specs.Marks.Words.{or-e}
+use Rattle.psl.specs.Marks.Feed.{any}
+use Rattle.psl.specs.Marks.Linear.{two}
 
 -- A row as the sequences see it: a Boolean; a sequence of operands; a weak sequence; a left side or never; another property.
 pub data Row : Type 0 where
@@ -52,161 +52,89 @@ pub data Sits (row : ℕ → Row) (live : ℕ → Bool → Bool) : ℕ → Bool 
   s-star : {n : ℕ} {f : Bool} {v a : ℕ} {x : Sequence} {m : Marks x} → row v ≡ r-star a → Sits row live v false a x m → Sits row live n f v (star x) m
   s-plus : {n : ℕ} {f : Bool} {v a : ℕ} {x : Sequence} {m : Marks x} → row v ≡ r-plus a → Sits row live v false a x m → Sits row live n f v (plus x) m
 
--- What the upward pass finds of a part: lanes 0 to 5 are its own cells from the left, lane 7 the expected ones.
-pub record Part : Type 0 where
-  pub empty : Bool
-  pub early : Bool
-  pub count : ℕ
-  pub ends : ℕ → Bool
+-- what may stand as an operand of a sequence, and which of these are sequences themselves
+abbrev pub IsOperand : Row → Type 0
+IsOperand (r-bool b) = Unit
+IsOperand (r-then a b) = Unit
+IsOperand (r-fuse a b) = Unit
+IsOperand (r-alt a b) = Unit
+IsOperand (r-star a) = Unit
+IsOperand (r-plus a) = Unit
+IsOperand (r-weak a) = ⊥
+IsOperand (r-left a) = ⊥
+IsOperand r-rest = ⊥
 
-pub record PartOk (r : Sequence) (c : Letter) (m : Marks r) (p : Part) : Type 0 where
-  pub empty-is : p .empty ≡ nullable r
-  pub early-is : p .early ≡ early r c
-  pub count-is : Cap (cells r) (p .count)
-  pub merged-is : p .ends 7 ≡ ends r c m
-  pub lanes-are : (l : ℕ) → l < 6 → p .ends l ≡ ends r c (own r 0 l)
+abbrev pub IsSequence : Row → Type 0
+IsSequence (r-bool b) = ⊥
+IsSequence (r-then a b) = Unit
+IsSequence (r-fuse a b) = Unit
+IsSequence (r-alt a b) = Unit
+IsSequence (r-star a) = Unit
+IsSequence (r-plus a) = Unit
+IsSequence (r-weak a) = ⊥
+IsSequence (r-left a) = ⊥
+IsSequence r-rest = ⊥
 
-abbrev pub choose : Bool → Bool → Bool → Bool
-choose true x y = x
-choose false x y = y
+abbrev pub build : (ℕ → Sequence) → Row → Sequence
+build p (r-bool b) = cell b
+build p (r-then a b) = then (p a) (p b)
+build p (r-fuse a b) = fuse (p a) (p b)
+build p (r-alt a b) = alt (p a) (p b)
+build p (r-star a) = star (p a)
+build p (r-plus a) = plus (p a)
+build p (r-weak a) = cell (constant false)
+build p (r-left a) = cell (constant false)
+build p r-rest = cell (constant false)
 
--- the lanes of b, k cells to the right; lane 7 stays
-abbrev pub placed : ℕ → (ℕ → Bool) → ℕ → Bool
-placed k e l = choose (eqb l 7) (e 7) (ltb l 6 && shiftedL k e l)
+module _ (row : ℕ → Row) where
+  -- row v, with at most k rows below one another
+  unfoldable pub read-within : ℕ → ℕ → Sequence
+  read-within zero v = cell (constant false)
+  read-within (suc k) v = build (read-within k) (row v)
 
-abbrev pub capped : ℕ → ℕ → ℕ
-capped j k = elim (ltb (j + k) 7) [ true ↦ j + k | false ↦ 7 ]
+  pub record Operands : Type 0 where
+    pub falls : (n : ℕ) (f : Bool) (v : ℕ) → Has (row n) f v → v < n
+    pub class : (n : ℕ) (f : Bool) (v : ℕ) → Has (row n) f v → IsOperand (row v)
 
-abbrev pub cellP : Bool → Bool → Part
-cellP on live = record { empty = false; early = on; count = 1; ends = λ l. on && choose (eqb l 7) live (eqb 0 l) }
+  module _ (live : ℕ → Bool → Bool) (ops : Operands) where
+    abbrev Sitting : ℕ → Bool → ℕ → Sequence → Type 0
+    Sitting n f v r = (m : Marks r) × Sits row live n f v r m
 
-abbrev pub thenP : Part → Part → Part
-thenP x y = record {
-  empty = x .empty && y .empty;
-  early = (x .early && y .empty) || (x .empty && y .early);
-  count = capped (x .count) (y .count);
-  ends = λ l. placed (x .count) (y .ends) l || (y .empty && x .ends l);
-}
+    some-by : (k n : ℕ) (f : Bool) (v : ℕ) (R : Row) → row v ≡ R → IsOperand R → ((g : Bool) (a : ℕ) → Has R g a → Sitting v g a (read-within k a)) → Sitting n f v (build (read-within k) R)
+    some-by k n f v (r-bool b) e q h = (live n f, s-cell e refl)
+    some-by k n f v (r-then a b) e q h = let s = h false a refl in let t = h true b refl in ((s .0, t .0), s-then e (s .1) (t .1))
+    some-by k n f v (r-fuse a b) e q h = let s = h false a refl in let t = h true b refl in ((s .0, t .0), s-fuse e (s .1) (t .1))
+    some-by k n f v (r-alt a b) e q h = let s = h false a refl in let t = h true b refl in ((s .0, t .0), s-alt e (s .1) (t .1))
+    some-by k n f v (r-star a) e q h = let s = h false a refl in (s .0, s-star e (s .1))
+    some-by k n f v (r-plus a) e q h = let s = h false a refl in (s .0, s-plus e (s .1))
 
-abbrev pub fuseP : Part → Part → Part
-fuseP x y = record {
-  empty = false;
-  early = x .early && y .early;
-  count = capped (x .count) (y .count);
-  ends = λ l. placed (x .count) (y .ends) l || (y .early && x .ends l);
-}
+    pub sits-some : (k n : ℕ) (f : Bool) (v : ℕ) → v < k → IsOperand (row v) → Sitting n f v (read-within k v)
+    unfolding read-within
+    sits-some zero n f v l q = absurd (omega arith)
+    sits-some (suc k) n f v l q = some-by k n f v (row v) refl q (λ g a i. sits-some k v g a (omega (arith, ops .falls v g a i)) (ops .class v g a i))
 
-abbrev pub altP : Part → Part → Part
-altP x y = record {
-  empty = x .empty || y .empty;
-  early = x .early || y .early;
-  count = capped (x .count) (y .count);
-  ends = λ l. placed (x .count) (y .ends) l || x .ends l;
-}
+  module _ (live : ℕ → Bool → Bool) where
+    -- the marks are determined
+    pub sits-one : {n : ℕ} {f : Bool} {v : ℕ} {r : Sequence} {m k : Marks r} → Sits row live n f v r m → Sits row live n f v r k → m ≡ k
+    sits-one (s-cell e p) (s-cell e′ q) = p ∙ sym q
+    sits-one (s-then {a = a} {b = b} e s t) (s-then {a = a′} {b = b′} e′ s′ t′) = let p : a′ ≡ a = cc in let q : b′ ≡ b = cc in two (sits-one s (rw p at s′)) (sits-one t (rw q at t′))
+    sits-one (s-fuse {a = a} {b = b} e s t) (s-fuse {a = a′} {b = b′} e′ s′ t′) = let p : a′ ≡ a = cc in let q : b′ ≡ b = cc in two (sits-one s (rw p at s′)) (sits-one t (rw q at t′))
+    sits-one (s-alt {a = a} {b = b} e s t) (s-alt {a = a′} {b = b′} e′ s′ t′) = let p : a′ ≡ a = cc in let q : b′ ≡ b = cc in two (sits-one s (rw p at s′)) (sits-one t (rw q at t′))
+    sits-one (s-star {a = a} e s) (s-star {a = a′} e′ s′) = let p : a′ ≡ a = cc in sits-one s (rw p at s′)
+    sits-one (s-plus {a = a} e s) (s-plus {a = a′} e′ s′) = let p : a′ ≡ a = cc in sits-one s (rw p at s′)
 
-abbrev pub loopP : Bool → Part → Part
-loopP s x = record { empty = x .empty || s; early = x .early; count = x .count; ends = x .ends }
+    -- a marked cell is a bit that is set
+    abbrev pub Lit : Type 0
+    Lit = (j : ℕ) × (g : Bool) × (live j g ≡ true)
 
-cap-add : {m n j k : ℕ} → Cap m j → Cap n k → Cap (n + m) (capped j k)
-cap-add {m} {n} {j} {k} p q = go (ltb (j + k) 7) (tells-lt (j + k) 7) p q
-  where
-    go : (b : Bool) → Tells (j + k < 7) b → Cap m j → Cap n k → Cap (n + m) (elim b [ true ↦ j + k | false ↦ 7 ])
-    go true (does h) (exact a b) (exact d e) = exact {k = j + k} (omega arith) (omega arith)
-    go true (does h) (exact a b) (over d e) = absurd (omega arith)
-    go true (does h) (over a b) q = absurd (omega arith)
-    go false (doesnt h) (exact a b) (exact d e) = over refl (omega arith)
-    go false (doesnt h) (exact a b) (over d e) = over refl (omega arith)
-    go false (doesnt h) (over a b) q = over refl (omega arith)
+    lit-of : (b : Bool) (j : ℕ) (g : Bool) → b ≡ live j g → T b → Lit
+    lit-of true j g e t = (j, g, sym e)
+    lit-of false j g e t = absurd t
 
--- below 6 a lane is shifted
-pub placed-low : (k : ℕ) (e : ℕ → Bool) (l : ℕ) → l < 6 → placed k e l ≡ shiftedL k e l
-placed-low k e l h = rw (tells-no (tells-eq l 7) (λ z. omega arith), true-tells (tells-lt l 6) h)
-
--- lane 7 of a cell is its mark, lane 0 itself
-cell-ok : (b : Boolean) (c : Letter) (m live : Bool) → m ≡ live → PartOk (cell b) c m (cellP (satisfies c b) live)
-cell-ok b c m live e = record {
-  empty-is = refl;
-  early-is = refl;
-  count-is = exact refl (omega arith);
-  merged-is = rw (← e) (and-comm (satisfies c b) m);
-  lanes-are = λ l h. rw (tells-no (tells-eq l 7) (λ z. omega arith)) (and-comm (satisfies c b) (eqb 0 l));
-}
-
-module _ (c : Letter) {x y : Sequence} {m : Marks x × Marks y} {p q : Part} (s : PartOk x c (m .0) p) (t : PartOk y c (m .1) q) where
-  right-lanes : (l : ℕ) → l < 6 → placed (p .count) (q .ends) l ≡ ends y c (own y (0 + cells x) l)
-  right-lanes l h = rw zero-add (placed-low (p .count) (q .ends) l h ∙ lane-shift y c (q .ends) (t .lanes-are) (s .count-is) l h)
-
-  then-ok : PartOk (then x y) c m (thenP p q)
-  then-ok = record {
-    empty-is = ap₂ _&&_ (s .empty-is) (t .empty-is);
-    early-is = rw (s .early-is, t .empty-is, s .empty-is, t .early-is) (sym (early-then x y c));
-    count-is = cap-add (s .count-is) (t .count-is);
-    merged-is = rw (t .merged-is, s .merged-is, t .empty-is);
-    lanes-are = λ l h. rw (right-lanes l h, s .lanes-are l h, t .empty-is);
-  }
-
-  fuse-ok : PartOk (fuse x y) c m (fuseP p q)
-  fuse-ok = record {
-    empty-is = refl;
-    early-is = rw (s .early-is, t .early-is) (sym (early-fuse x y c));
-    count-is = cap-add (s .count-is) (t .count-is);
-    merged-is = rw (t .merged-is, s .merged-is, t .early-is);
-    lanes-are = λ l h. rw (right-lanes l h, s .lanes-are l h, t .early-is);
-  }
-
-  alt-ok : PartOk (alt x y) c m (altP p q)
-  alt-ok = record {
-    empty-is = ap₂ _||_ (s .empty-is) (t .empty-is);
-    early-is = ap₂ _||_ (s .early-is) (t .early-is);
-    count-is = cap-add (s .count-is) (t .count-is);
-    merged-is = ap₂ _||_ (t .merged-is) (s .merged-is);
-    lanes-are = λ l h. rw (right-lanes l h, s .lanes-are l h);
-  }
-
-module _ (c : Letter) {x : Sequence} {m : Marks x} {p : Part} (s : PartOk x c m p) where
-  or-true : (b : Bool) → b || true ≡ true
-  or-true true = refl
-  or-true false = refl
-
-  star-ok : PartOk (star x) c m (loopP true p)
-  star-ok = record { empty-is = or-true (p .empty); early-is = s .early-is; count-is = s .count-is; merged-is = s .merged-is; lanes-are = s .lanes-are }
-
-  plus-ok : PartOk (plus x) c m (loopP false p)
-  plus-ok = record { empty-is = or-false (p .empty) ∙ s .empty-is; early-is = s .early-is; count-is = s .count-is; merged-is = s .merged-is; lanes-are = s .lanes-are }
-
--- The upward pass: what it leaves at each row, from the operands; at a Boolean the part is the cell's.
-module _ (row : ℕ → Row) (live : ℕ → Bool → Bool) (c : Letter) (part : ℕ → Part) where
-  abbrev operandBy : Row → ℕ → Bool → ℕ → Part
-  operandBy (r-bool b) n f v = cellP (satisfies c b) (live n f)
-  operandBy (r-then a b) n f v = part v
-  operandBy (r-fuse a b) n f v = part v
-  operandBy (r-alt a b) n f v = part v
-  operandBy (r-star a) n f v = part v
-  operandBy (r-plus a) n f v = part v
-  operandBy (r-weak a) n f v = part v
-  operandBy (r-left a) n f v = part v
-  operandBy r-rest n f v = part v
-
-  abbrev pub operand : ℕ → Bool → ℕ → Part
-  operand n f v = operandBy (row v) n f v
-
-  abbrev pub RowPart : Row → ℕ → Type 0
-  RowPart (r-bool b) v = Unit
-  RowPart (r-then a b) v = part v ≡ thenP (operand v false a) (operand v true b)
-  RowPart (r-fuse a b) v = part v ≡ fuseP (operand v false a) (operand v true b)
-  RowPart (r-alt a b) v = part v ≡ altP (operand v false a) (operand v true b)
-  RowPart (r-star a) v = part v ≡ loopP true (operand v false a)
-  RowPart (r-plus a) v = part v ≡ loopP false (operand v false a)
-  RowPart (r-weak a) v = Unit
-  RowPart (r-left a) v = Unit
-  RowPart r-rest v = Unit
-
-  -- THE UPWARD PASS is right
-  module _ (all : (v : ℕ) → RowPart (row v) v) where
-    pub part-ok : {n : ℕ} {f : Bool} {v : ℕ} {r : Sequence} {m : Marks r} → Sits row live n f v r m → PartOk r c m (operand n f v)
-    part-ok {n} {f} {v} (s-cell {b = b} {m = m} e k) = rw e (cell-ok b c m (live n f) k)
-    part-ok {v = v} (s-then e s t) = let h = rw e at (all v) in rw (e, h) (then-ok c (part-ok s) (part-ok t))
-    part-ok {v = v} (s-fuse e s t) = let h = rw e at (all v) in rw (e, h) (fuse-ok c (part-ok s) (part-ok t))
-    part-ok {v = v} (s-alt e s t) = let h = rw e at (all v) in rw (e, h) (alt-ok c (part-ok s) (part-ok t))
-    part-ok {v = v} (s-star e s) = let h = rw e at (all v) in rw (e, h) (star-ok c (part-ok s))
-    part-ok {v = v} (s-plus e s) = let h = rw e at (all v) in rw (e, h) (plus-ok c (part-ok s))
+    pub sits-lit : {n : ℕ} {f : Bool} {v : ℕ} {r : Sequence} {m : Marks r} → Sits row live n f v r m → T (any r m) → Lit
+    sits-lit {n = n} {f = f} (s-cell {m = m} e q) t = lit-of m n f q t
+    sits-lit (s-then {x = x} {y = y} {m = m} e s u) t = ⊎-elim (sits-lit s) (sits-lit u) (or-e (any x (m .0)) (any y (m .1)) t)
+    sits-lit (s-fuse {x = x} {y = y} {m = m} e s u) t = ⊎-elim (sits-lit s) (sits-lit u) (or-e (any x (m .0)) (any y (m .1)) t)
+    sits-lit (s-alt {x = x} {y = y} {m = m} e s u) t = ⊎-elim (sits-lit s) (sits-lit u) (or-e (any x (m .0)) (any y (m .1)) t)
+    sits-lit (s-star e s) t = sits-lit s t
+    sits-lit (s-plus e s) t = sits-lit s t

@@ -1,10 +1,11 @@
--- One lane: a step of marks, computed by handing down who enters now (into) and who enters next (go).
+-- One lane: a step of marks, computed by handing down to each part whether the lane enters it on this letter (i) and on the next (g).
+-- Nothing here has to be believed.
 use mathlib.Core.Path.{_≡_, refl, sym, _∙_, ap, ap₂}
-use mathlib.Core.Bool.{Bool, true, false, _&&_, _||_, or-false}
-use Rattle.psl.specs.Sequences.{Sequence, cell, then, fuse, alt, star, plus}
+use mathlib.Core.Bool.{Bool, true, false, _&&_, _||_, or-comm, and-true, and-false, and-comm}
 use Rattle.psl.specs.Booleans.{Letter, satisfies}
+use Rattle.psl.specs.Sequences.{Sequence, cell, then, fuse, alt, star, plus}
 use Rattle.psl.specs.Marks.Automaton.{Marks, empty, join, gate, nullable, first, step}
-use Rattle.psl.specs.Marks.Linear.{join-self, join-empty-r, join-empty-l, join4, gate-or, step-join, step-empty, two}
+use Rattle.psl.specs.Marks.Linear.{join-empty-r, join-empty-l, join4, gate-or, step-join, step-empty, two}
 
 -- the marks that read the letter: the lane's own, and the first cells if the lane enters now
 abbrev pub fed : (r : Sequence) → Marks r → Bool → Marks r
@@ -67,33 +68,12 @@ module _ (a : Sequence) (m : Marks a) where
   gate-plus true = refl
   gate-plus false = refl
 
--- a test of marks that holds of two joined just if it does of either
 gated : (r : Sequence) (c : Letter) (d : Bool) (m : Marks r) → step r c (gate r d m) .0 ≡ step r c m .0 && d
-gated r c true m = go (step r c m .0)
-  where
-    go : (b : Bool) → b ≡ b && true
-    go true = refl
-    go false = refl
-gated r c false m = step-empty r c .0 ∙ go (step r c m .0)
-  where
-    go : (b : Bool) → false ≡ b && false
-    go true = refl
-    go false = refl
+gated r c true m = sym (and-true (step r c m .0))
+gated r c false m = step-empty r c .0 ∙ sym (and-false (step r c m .0))
 
 pub step-fed : (r : Sequence) (c : Letter) (m : Marks r) (i : Bool) → step r c (fed r m i) .0 ≡ step r c m .0 || (early r c && i)
 step-fed r c m i = step-join r c m (gate r i (first r)) .done ∙ ap (λ (k : Bool). step r c m .0 || k) (gated r c i (first r))
-
-pub or-comm : (a b : Bool) → a || b ≡ b || a
-or-comm true true = refl
-or-comm true false = refl
-or-comm false true = refl
-or-comm false false = refl
-
-pub and-comm : (a b : Bool) → a && b ≡ b && a
-and-comm true true = refl
-and-comm true false = refl
-and-comm false true = refl
-and-comm false false = refl
 
 pub ends-is : (r : Sequence) (c : Letter) (m : Marks r) → ends r c m ≡ step r c m .0
 ends-is (cell b) c m = refl
@@ -127,7 +107,7 @@ again r y x g = ap (λ (k : Bool). join r y (gate r k (first r))) (or-comm g x) 
 whole : (r : Sequence) (c : Letter) (m k l : Marks r) → Marks r
 whole r c m k l = join r (step r c (join r m k) .1) l
 
--- THE THEOREM
+-- ONE LANE IS RIGHT: the cells expected next are those of the step, with the first cells where the lane enters next.
 pub next-is : (r : Sequence) (c : Letter) (m : Marks r) (i g : Bool) → next r c m i g ≡ join r (step r c (fed r m i) .1) (gate r g (first r))
 unfolding whole
 next-is (cell b) c m i true = refl
@@ -155,3 +135,7 @@ next-is (plus a) c m i g =
     ∙ ap (λ (k : Bool). join a (step a c (fed a m i) .1) (gate a (g || k) (first a))) (ended-is a c m i)
     ∙ again a (step a c (fed a m i) .1) (step a c (fed a m i) .0) g
     ∙ sym (ap₂ (whole (plus a) c m) (gate-plus a (first a) i) (gate-plus a (first a) g))
+
+-- At the top nothing enters next, so they are those of the step alone.
+pub next-top : (r : Sequence) (c : Letter) (m : Marks r) (i : Bool) → next r c m i false ≡ step r c (fed r m i) .1
+next-top r c m i = next-is r c m i false ∙ join-empty-r r (step r c (fed r m i) .1)

@@ -1,15 +1,17 @@
--- One operand handed its use, and the one or two of a row.
-use Prim.Native.Nat.{ℕ, _≤_, _<_}
+-- One operand handed its use, as the code does it; and from one or two of these what the visit of a row does.
+-- Nothing here has to be believed.
+use Prim.Native.Nat.{ℕ}
 use native.Mathlib.Omega.{arith}
-use mathlib.Core.Path.{_≡_, refl, sym, _∙_, ap, subst}
+use mathlib.Core.Path.{_≡_, refl, sym, _∙_, subst}
 use mathlib.Core.Bool.{Bool, true, false}
 use mathlib.Core.Logic.{_⊎_, inl, inr, ⊎-elim}
 use lib.Dec.{T}
 use Rattle.psl.specs.Booleans.{Boolean, Letter}
-use Rattle.lanes.specs.Rows.{Row, r-bool, r-then, r-fuse, r-alt, r-star, r-plus, r-weak, r-left, r-rest, Has, Part}
-use Rattle.lanes.specs.Down.{Use}
-use Rattle.lanes.specs.Land.{Work, CellLands, LandsBy, give, Landed}
-use Rattle.lanes.specs.Loop.{IsSeq, Sound, CellAt, Visits}
+use Rattle.lanes.specs.Rows.{Row, r-bool, r-then, r-fuse, r-alt, r-star, r-plus, r-weak, r-left, r-rest, Has, IsSequence}
+use Rattle.lanes.specs.UpPass.{Part}
+use Rattle.lanes.specs.Uses.{Use}
+use Rattle.lanes.specs.DownPass.{Work, LandsBy, give}
+use Rattle.lanes.specs.DownLoop.{Sound, CellAt, Visits}
 
 module _ (row : ℕ → Row) where
   -- the arrays after operand v in field f of row n was handed w: what the contract of the code says
@@ -26,7 +28,7 @@ module _ (row : ℕ → Row) where
   no-field e = subst T (sym e) tt
 
   -- what the left operand got is still there after the right one
-  still : (R : Row) (n a b : ℕ) (x y : Use) (d e : Work) → row a ≡ R → (IsSeq (row a) → a ≡ b → ⊥) → Hands n true b y d e → LandsBy d R n false a x → LandsBy e R n false a x
+  still : (R : Row) (n a b : ℕ) (x y : Use) (d e : Work) → row a ≡ R → (IsSequence (row a) → a ≡ b → ⊥) → Hands n true b y d e → LandsBy d R n false a x → LandsBy e R n false a x
   still (r-bool z) n a b x y d e q u h k = record { merged = λ o. h .after-else n false (λ i j. no-field j) ∙ k .merged o; apart = λ o l i j. h .rel-more _ _ _ (k .apart o l i j) }
   still (r-then i j) n a b x y d e q u h k = h .uses-else a (u (rw q tt)) ∙ k
   still (r-fuse i j) n a b x y d e q u h k = h .uses-else a (u (rw q tt)) ∙ k
@@ -44,7 +46,7 @@ module _ (row : ℕ → Row) where
     pub only-a : (v : ℕ) → Has (row n) false v → v ≡ a
     pub only-b : (v : ℕ) → Has (row n) true v → v ≡ b
 
-  module _ (live : ℕ → Bool → Bool) (c : Letter) (part : ℕ → Part) (enter : ℕ → Bool) (G : ℕ → ℕ → ℕ → Bool) (Waits : Type 0) (sound : Sound row) where
+  module _ (live : ℕ → Bool → Bool) (c : Letter) (part : ℕ → Part) (enter : ℕ → Bool) (reaches : ℕ → ℕ → ℕ → Bool) (Waits : Type 0) (sound : Sound row) where
     abbrev given : Work → ℕ → Bool → Use
     given d n f = give row live c part enter (row n) n f (d .uses n)
 
@@ -52,7 +54,7 @@ module _ (row : ℕ → Row) where
       uses-n : e .uses n ≡ d .uses n
       uses-n = k .uses-else n (λ z. omega (arith, sound .falls n true b (t .has-b))) ∙ h .uses-else n (λ z. omega (arith, sound .falls n false a (t .has-a)))
 
-      apart : IsSeq (row a) → a ≡ b → ⊥
+      apart : IsSequence (row a) → a ≡ b → ⊥
       apart s z = no-field (sound .once n n false true a s (t .has-a) (subst (λ (v : ℕ). Has (row n) true v) (sym z) (t .has-b)) .1)
 
       lands-by : (f : Bool) (v : ℕ) → Has (row n) f v → LandsBy e (row v) n f v (given d n f)
@@ -62,25 +64,25 @@ module _ (row : ℕ → Row) where
       uses-by : (v : ℕ) → ((f : Bool) → Has (row n) f v → ⊥) → e .uses v ≡ d .uses v
       uses-by v z = k .uses-else v (λ q. z true (rw q (t .has-b))) ∙ h .uses-else v (λ q. z false (rw q (t .has-a)))
 
-      cell-a : (z : Boolean) → row a ≡ r-bool z → CellAt row live c part enter G Waits n false (given d n false)
-      cell-a z q = record { at = a; bool = z; has = t .has-a; is = q }
+      cell-a : (z : Boolean) → row a ≡ r-bool z → CellAt row live c part enter reaches Waits n false (given d n false)
+      cell-a z q = record { at = a; boolean = z; has = t .has-a; is = q }
 
-      cell-b : (z : Boolean) → row b ≡ r-bool z → CellAt row live c part enter G Waits n true (given d n true)
-      cell-b z q = record { at = b; bool = z; has = t .has-b; is = q }
+      cell-b : (z : Boolean) → row b ≡ r-bool z → CellAt row live c part enter reaches Waits n true (given d n true)
+      cell-b z q = record { at = b; boolean = z; has = t .has-b; is = q }
 
-      after-by : (f : Bool) → e .after n f ≡ true → (d .after n f ≡ true) ⊎ (CellAt row live c part enter G Waits n f (given d n f) × (given d n f .owner ≡ 64) × (given d n f .go 7 ≡ true))
+      after-by : (f : Bool) → e .after n f ≡ true → (d .after n f ≡ true) ⊎ (CellAt row live c part enter reaches Waits n f (given d n f) × (given d n f .owner ≡ 64) × (given d n f .go 7 ≡ true))
       after-by false s = ⊎-elim (λ x. inl x) (λ x. inr (cell-a (x .0) (x .1), x .2, x .3)) (h .after-new (sym (k .after-else n false (λ i j. no-field j)) ∙ s))
       after-by true s = ⊎-elim (λ x. inl (sym (h .after-else n true (λ i j. no-field (sym j))) ∙ x)) (λ x. inr (cell-b (x .0) (x .1), x .2, x .3)) (k .after-new s)
 
       abbrev New : ℕ → ℕ → ℕ → Type 0
-      New o l q = (f : Bool) × CellAt row live c part enter G Waits n f (given d n f) × (given d n f .owner ≡ o) × (given d n f .base ≡ q) × (given d n f .go l ≡ true)
+      New o l q = (f : Bool) × CellAt row live c part enter reaches Waits n f (given d n f) × (given d n f .owner ≡ o) × (given d n f .base ≡ q) × (given d n f .go l ≡ true)
 
       rel-by : (o l q : ℕ) → e .rel o l q ≡ true → (d .rel o l q ≡ true) ⊎ New o l q
       rel-by o l q s = ⊎-elim (λ x. ⊎-elim (λ y. inl y) (λ y. inr (false, cell-a (y .0) (y .1), y .2, y .3, y .4)) (h .rel-new o l q x))
           (λ x. inr (true, cell-b (x .0) (x .1), x .2, x .3, x .4)) (k .rel-new o l q s)
 
       -- TWO OPERANDS
-      pub visits-two : Visits row live c part enter G Waits n d e
+      pub visits-two : Visits row live c part enter reaches Waits n d e
       visits-two = record {
         lands = λ f v i. rw uses-n (lands-by f v i);
         uses-else = uses-by;
@@ -97,15 +99,15 @@ module _ (row : ℕ → Row) where
       one-lands : (f : Bool) (v : ℕ) → Has (row n) f v → LandsBy e (row v) n f v (given d n f)
       one-lands f v i = rw (only f v i .0, only f v i .1) (h .lands)
 
-      one-cell : (z : Boolean) → row a ≡ r-bool z → CellAt row live c part enter G Waits n false (given d n false)
-      one-cell z q = record { at = a; bool = z; has = has-a; is = q }
+      one-cell : (z : Boolean) → row a ≡ r-bool z → CellAt row live c part enter reaches Waits n false (given d n false)
+      one-cell z q = record { at = a; boolean = z; has = has-a; is = q }
 
-      one-after : (f : Bool) → e .after n f ≡ true → (d .after n f ≡ true) ⊎ (CellAt row live c part enter G Waits n f (given d n f) × (given d n f .owner ≡ 64) × (given d n f .go 7 ≡ true))
+      one-after : (f : Bool) → e .after n f ≡ true → (d .after n f ≡ true) ⊎ (CellAt row live c part enter reaches Waits n f (given d n f) × (given d n f .owner ≡ 64) × (given d n f .go 7 ≡ true))
       one-after false s = ⊎-elim (λ x. inl x) (λ x. inr (one-cell (x .0) (x .1), x .2, x .3)) (h .after-new s)
       one-after true s = inl (sym (h .after-else n true (λ i j. no-field (sym j))) ∙ s)
 
       -- ONE OPERAND
-      pub visits-one : Visits row live c part enter G Waits n d e
+      pub visits-one : Visits row live c part enter reaches Waits n d e
       visits-one = record {
         lands = λ f v i. rw one-uses (one-lands f v i);
         uses-else = λ v z. h .uses-else v (λ q. z false (rw q has-a));
@@ -116,7 +118,7 @@ module _ (row : ℕ → Row) where
       }
 
     -- NO OPERAND
-    pub visits-none : (n : ℕ) (d : Work) → ((f : Bool) (v : ℕ) → Has (row n) f v → ⊥) → Visits row live c part enter G Waits n d d
+    pub visits-none : (n : ℕ) (d : Work) → ((f : Bool) (v : ℕ) → Has (row n) f v → ⊥) → Visits row live c part enter reaches Waits n d d
     visits-none n d nil = record {
       lands = λ f v i. absurd (nil f v i);
       uses-else = λ v z. refl;

@@ -1,15 +1,23 @@
--- A bit of a word, and a word with one more bit.
+-- Tests that tell the same; the bits of a number joined with another, and of one with a bit more.
+-- Nothing here has to be believed.
 use Prim.Native.Nat.{ℕ, zero, suc, _+_, _-_, _/_, _%_, _^_, _<_}
+use native.Mathlib.Nat.{div-eq-of-lt, div-self}
 use native.Mathlib.Omega.{arith}
+use native.Mathlib.Decide.{decLt}
 use mathlib.Core.Path.{_≡_, refl}
 use mathlib.Core.Bool.{Bool, true, false, _||_}
-use lib.Bits.{bitOr, or-shr, or-mod}
-use lib.Pow.{pow-add, pow-pos, shl-shr, pow-lt}
-use native.Mathlib.Nat.{div-eq-of-lt, div-self}
-use native.Mathlib.Decide.{decLt}
 use lib.Dec.{eqb}
-use Rattle.psl.specs.Decide.Tells.{Tells, does, doesnt, tells-eq}
+use lib.Bits.{bitOr, or-shr, or-mod}
+use lib.Pow.{pow-lt, pow-pos, pow-add, shl-shr}
 use Rattle.psl.specs.Booleans.{bit}
+use Rattle.psl.specs.Decide.Tells.{Tells, does, doesnt, tells-eq}
+
+-- Two tests of statements that follow from one another are equal.
+pub tells-same : {P Q : Type 0} {a b : Bool} → Tells P a → Tells Q b → (P → Q) → (Q → P) → a ≡ b
+tells-same (does p) (does q) f g = refl
+tells-same (does p) (doesnt q) f g = absurd (q (f p))
+tells-same (doesnt p) (does q) f g = absurd (p (g q))
+tells-same (doesnt p) (doesnt q) f g = refl
 
 or-digit : (x y : ℕ) → x < 2 → y < 2 → eqb (bitOr x y) 1 ≡ eqb x 1 || eqb y 1
 or-digit zero zero p q = refl

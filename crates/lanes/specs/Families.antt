@@ -1,36 +1,34 @@
--- The pending sets of a weak sequence as a word of bits, moved set by set through the relation of its cells.
-use Prim.Native.Nat.{ℕ, zero, suc, _+_, _-_, _*_, _/_, _%_, _^_, _≤_, _<_}
-use native.Mathlib.Nat.{zero-add, zero-mul, suc-add, zero-div, div-one, mod-eq-of-lt, div-eq-of-lt}
+-- The pending sets of a weak sequence as a word of bits, moved set by set through the relation of its cells: the model's sets after the sample.
+-- Nothing here has to be believed.
+use Prim.Native.Nat.{ℕ, zero, suc, _+_, _-_, _^_, _≤_, _<_}
+use native.Mathlib.Nat.{zero-add, suc-add, zero-mul, zero-div, div-one, mod-eq-of-lt, div-eq-of-lt}
 use native.Mathlib.Omega.{arith}
-use native.Mathlib.Decide.{decLt}
-use mathlib.Core.Path.{_≡_, refl, sym, _∙_, ap, ap₂, subst}
-use mathlib.Core.Bool.{Bool, true, false, not, _&&_, _||_, or-false}
+use mathlib.Core.Path.{_≡_, refl, sym, _∙_, ap, ap₂}
+use mathlib.Core.Bool.{Bool, true, false, not, _&&_, _||_, or-false, and-false}
 use mathlib.Core.Logic.{_⊎_, inl, inr, ⊎-elim}
-use lib.Dec.{T, eqb, ltb, lit<}
+use lib.Dec.{eqb, lit<}
 use lib.Bits.{bitOr, or-lt}
-use lib.Pow.{pow-lt, pow-mono, pow-pos}
+use lib.Pow.{pow-lt, pow-mono}
+use Rattle.psl.specs.Booleans.{Letter, sample, bit}
 use Rattle.psl.specs.Sequences.{Sequence}
-use Rattle.psl.specs.Booleans.{Letter, sample}
-use Rattle.psl.specs.Marks.Automaton.{Marks, empty, join, gate, first, step}
+use Rattle.psl.specs.Marks.Automaton.{gate, first, step}
 use Rattle.psl.specs.Marks.Masks.{cells, mask, unmask, mask-lt, unmask-mask}
-use Rattle.psl.specs.Decide.Tells.{Tells, does, doesnt, tells-eq, tells-or, tells-and, tells-iff, tells-value, tells-not-value, tells-true}
-use Rattle.psl.specs.Booleans.{bit}
-use Rattle.lanes.specs.Bit.{bit-on}
-use Rattle.psl.specs.Decide.Tells.{any, tells-any}
-use Rattle.psl.specs.Model.Auto.{Sets}
+use Rattle.psl.specs.Decide.Tells.{any, tells-eq, tells-or, tells-and, tells-value, tells-any}
 use Rattle.psl.specs.Model.Machine.{machine}
 use Rattle.psl.specs.Model.Monitor.{setsAfter}
-use Rattle.lanes.specs.Fill.{fill, own, fill-same, fill-none, unmask-fill, mask-unmask, part, part-suc, part-zero, part-all, tells-same, step-set}
+use Rattle.lanes.specs.Bits.{tells-same, bit-on}
+use Rattle.lanes.specs.CellSets.{fill, own, fill-same, unmask-fill, mask-unmask}
+use Rattle.lanes.specs.SetSteps.{below, below-suc, below-zero, below-all, step-set}
 
 -- w with bit n set, if d
-abbrev pub withBit : Bool → ℕ → ℕ → ℕ
-withBit true w n = bitOr w (2 ^ n)
-withBit false w n = w
+abbrev pub with-bit : Bool → ℕ → ℕ → ℕ
+with-bit true w n = bitOr w (2 ^ n)
+with-bit false w n = w
 
 -- the number whose bits below n are g
 unfoldable pub word : ℕ → (ℕ → Bool) → ℕ
 word zero g = 0
-word (suc n) g = withBit (g n) (word n g) n
+word (suc n) g = with-bit (g n) (word n g) n
 
 module _ (g : ℕ → Bool) where
   pub word-lt : (n : ℕ) → word n g < 2 ^ n
@@ -38,16 +36,16 @@ module _ (g : ℕ → Bool) where
   word-lt zero = lit< tt
   word-lt (suc n) = go (g n) (word-lt n)
     where
-      go : (d : Bool) → word n g < 2 ^ n → withBit d (word n g) n < 2 ^ suc n
+      go : (d : Bool) → word n g < 2 ^ n → with-bit d (word n g) n < 2 ^ suc n
       go true h = or-lt (suc n) (word n g) (2 ^ n) (omega arith) (pow-lt (omega arith))
       go false h = omega arith
 
-  pub word-bit : (n k : ℕ) → bit (word n g) k ≡ part n g k
+  pub word-bit : (n k : ℕ) → bit (word n g) k ≡ below n g k
   unfolding word
-  word-bit zero k = rw zero-div (sym (part-zero g k))
-  word-bit (suc n) k = go (g n) ∙ ap (λ (b : Bool). b || (g n && eqb k n)) (word-bit n k) ∙ sym (part-suc g n k)
+  word-bit zero k = rw zero-div (sym (below-zero g k))
+  word-bit (suc n) k = go (g n) ∙ ap (λ (b : Bool). b || (g n && eqb k n)) (word-bit n k) ∙ sym (below-suc g n k)
     where
-      go : (d : Bool) → bit (withBit d (word n g) n) k ≡ bit (word n g) k || (d && eqb k n)
+      go : (d : Bool) → bit (with-bit d (word n g) n) k ≡ bit (word n g) k || (d && eqb k n)
       go true = bit-on (word n g) n k
       go false = sym (or-false (bit (word n g) k))
 
@@ -57,7 +55,7 @@ module _ (g : ℕ → Bool) where
   word-short m (suc d) h = rw (suc-add, h (d + m) (omega arith)) (word-short m d h)
 
   unmask-word : (r : Sequence) (n : ℕ) → cells r ≤ n → unmask r (word n g) ≡ fill r 0 g
-  unmask-word r n l = rw div-one at (unmask-fill r (word n g) 0) ∙ fill-same _ _ r 0 (λ k i j. word-bit n k ∙ sym (part-all g n k (omega arith)))
+  unmask-word r n l = rw div-one at (unmask-fill r (word n g) 0) ∙ fill-same _ _ r 0 (λ k i j. word-bit n k ∙ sym (below-all g n k (omega arith)))
 
   pub mask-word : (r : Sequence) (n : ℕ) → cells r ≤ n → ((q : ℕ) → cells r ≤ q → g q ≡ false) → mask r (fill r 0 g) ≡ word n g
   mask-word r n l h =
@@ -75,18 +73,18 @@ pub record Lanes (r : Sequence) (c : Letter) (now : Bool) (E : ℕ → Bool) (R 
 
 module _ (E : ℕ → Bool) (R : ℕ → ℕ → Bool) where
   -- the code's: whether the lanes p end it, and the set that they lead to
-  abbrev pub endsOf : ℕ → Bool
-  endsOf p = any 7 (λ l. bit p l && E l)
+  abbrev pub set-ends : ℕ → Bool
+  set-ends p = any 7 (λ l. bit p l && E l)
 
-  abbrev pub imageOf : ℕ → ℕ
-  imageOf p = word 6 (λ q. any 7 (λ l. bit p l && R l q))
+  abbrev pub image : ℕ → ℕ
+  image p = word 6 (λ q. any 7 (λ l. bit p l && R l q))
 
   abbrev pub moves : ℕ → ℕ → Bool
-  moves p s = not (endsOf p) && eqb s (imageOf p)
+  moves p s = not (set-ends p) && eqb s (image p)
 
   -- the sets after the letter
-  abbrev pub movedTo : Bool → (ℕ → Bool) → ℕ → Bool
-  movedTo now old s = any 64 (λ p. old p && moves p s) || (now && moves 64 s)
+  abbrev pub moved-to : Bool → (ℕ → Bool) → ℕ → Bool
+  moved-to now old s = any 64 (λ p. old p && moves p s) || (now && moves 64 s)
 
   module _ (r : Sequence) (x : ℕ) (now : Bool) (h : Lanes r (sample x) now E R) where
     unmask-bits : (p : ℕ) → unmask r p ≡ fill r 0 (bit p)
@@ -97,7 +95,7 @@ module _ (E : ℕ → Bool) (R : ℕ → ℕ → Bool) where
     unfolding any
     no-six p F l = rw (div-eq-of-lt l)
 
-    ends-same : (p : ℕ) → p < 64 → endsOf p ≡ machine .ends r p x
+    ends-same : (p : ℕ) → p < 64 → set-ends p ≡ machine .ends r p x
     ends-same p l = no-six p E l ∙ sym (step-set r (sample x) E R (bit p) 6 (h .few) (h .each) .0) ∙ ap (λ m. step r (sample x) m .0) (sym (unmask-bits p))
 
     any-none : (n : ℕ) (f : ℕ → Bool) → ((l : ℕ) → l < n → f l ≡ false) → any n f ≡ false
@@ -105,14 +103,10 @@ module _ (E : ℕ → Bool) (R : ℕ → ℕ → Bool) where
     any-none zero f g = refl
     any-none (suc n) f g = rw (g n (omega arith)) (any-none n f (λ l h. g l (omega arith)))
 
-    and-none : (b : Bool) → b && false ≡ false
-    and-none true = refl
-    and-none false = refl
-
     beyond : (p q : ℕ) → cells r ≤ q → any 7 (λ l. bit p l && R l q) ≡ false
-    beyond p q i = any-none 7 _ (λ l j. ap (λ (b : Bool). bit p l && b) (h .inside l q j i) ∙ and-none (bit p l))
+    beyond p q i = any-none 7 _ (λ l j. ap (λ (b : Bool). bit p l && b) (h .inside l q j i) ∙ and-false (bit p l))
 
-    image-same : (p : ℕ) → p < 64 → imageOf p ≡ machine .go r p x
+    image-same : (p : ℕ) → p < 64 → image p ≡ machine .go r p x
     image-same p l = sym (mask-word _ r 6 (h .few) (beyond p)) ∙ ap (mask r) (fill-same _ _ r 0 (λ q i j. no-six p (λ k. R k q) l)
         ∙ sym (step-set r (sample x) E R (bit p) 6 (h .few) (h .each) .1) ∙ ap (λ m. step r (sample x) m .1) (sym (unmask-bits p)))
 
@@ -139,7 +133,7 @@ module _ (E : ℕ → Bool) (R : ℕ → ℕ → Bool) where
     small = pow-mono (h .few)
 
     -- THE FAMILY STEP is the model's step of the sets of pending attempts
-    pub sets-same : (old : ℕ → Bool) → ((p : ℕ) → old p ≡ true → p < 2 ^ cells r) → (s : ℕ) → movedTo now old s ≡ setsAfter machine r now old x s
+    pub sets-same : (old : ℕ → Bool) → ((p : ℕ) → old p ≡ true → p < 2 ^ cells r) → (s : ℕ) → moved-to now old s ≡ setsAfter machine r now old x s
     sets-same old low s = tells-same
         (tells-or (tells-any _ _ (λ p. tells-and (tells-value (old p)) (tells-value (moves p s))) 64) (tells-and (tells-value now) (tells-value (moves 64 s))))
         (tells-any _ _ (λ p. tells-and (tells-or (tells-value (old p)) (tells-and (tells-value now) (tells-eq p (mask r (first r))))) (tells-value (Goes p s))) (2 ^ cells r))
