@@ -21,6 +21,7 @@ pub record Work : Type 0 where
   pub after : ℕ → Bool → Bool
   pub rel : ℕ → ℕ → ℕ → Bool
 
+-- a cell in field f of row n has got w: its bit, or its lanes in the relation of its owner
 pub record CellLands (d : Work) (n : ℕ) (f : Bool) (w : Use) : Type 0 where
   pub merged : w .owner ≡ 64 → d .after n f ≡ w .go 7
   pub apart : w .owner < 64 → (l : ℕ) → l < 7 → w .go l ≡ true → d .rel (w .owner) l (w .base) ≡ true
@@ -60,6 +61,7 @@ module _ (row : ℕ → Row) (live : ℕ → Bool → Bool) (c : Letter) (part :
   give (r-left a) n f w = left-use (enter n)
   give r-rest n f w = w
 
+  -- each operand of row n has got what the row hands it
   abbrev pub Landed : Work → ℕ → Type 0
   Landed d n = (f : Bool) (v : ℕ) → Has (row n) f v → LandsBy d (row v) n f v (give (row n) n f (d .uses n))
 

@@ -52,7 +52,7 @@ pub data Sits (row : ℕ → Row) (live : ℕ → Bool → Bool) : ℕ → Bool 
   s-star : {n : ℕ} {f : Bool} {v a : ℕ} {x : Sequence} {m : Marks x} → row v ≡ r-star a → Sits row live v false a x m → Sits row live n f v (star x) m
   s-plus : {n : ℕ} {f : Bool} {v a : ℕ} {x : Sequence} {m : Marks x} → row v ≡ r-plus a → Sits row live v false a x m → Sits row live n f v (plus x) m
 
--- what may stand as an operand of a sequence, and which of these are sequences themselves
+-- What may stand as an operand of a sequence, and which of these are sequences themselves
 abbrev pub IsOperand : Row → Type 0
 IsOperand (r-bool b) = Unit
 IsOperand (r-then a b) = Unit
@@ -75,6 +75,7 @@ IsSequence (r-weak a) = ⊥
 IsSequence (r-left a) = ⊥
 IsSequence r-rest = ⊥
 
+-- a row as a sequence, its operands being read by p; a row that is no operand is not asked for
 abbrev pub build : (ℕ → Sequence) → Row → Sequence
 build p (r-bool b) = cell b
 build p (r-then a b) = then (p a) (p b)
@@ -92,11 +93,13 @@ module _ (row : ℕ → Row) where
   read-within zero v = cell (constant false)
   read-within (suc k) v = build (read-within k) (row v)
 
+  -- What is needed of an accepted table to read it: operands are smaller, and are Booleans or sequences.
   pub record Operands : Type 0 where
     pub falls : (n : ℕ) (f : Bool) (v : ℕ) → Has (row n) f v → v < n
     pub class : (n : ℕ) (f : Bool) (v : ℕ) → Has (row n) f v → IsOperand (row v)
 
   module _ (live : ℕ → Bool → Bool) (ops : Operands) where
+    -- some marks with which the operand reads as r
     abbrev Sitting : ℕ → Bool → ℕ → Sequence → Type 0
     Sitting n f v r = (m : Marks r) × Sits row live n f v r m
 
@@ -108,6 +111,7 @@ module _ (row : ℕ → Row) where
     some-by k n f v (r-star a) e q h = let s = h false a refl in (s .0, s-star e (s .1))
     some-by k n f v (r-plus a) e q h = let s = h false a refl in (s .0, s-plus e (s .1))
 
+    -- an operand reads as its row does, with fuel enough
     pub sits-some : (k n : ℕ) (f : Bool) (v : ℕ) → v < k → IsOperand (row v) → Sitting n f v (read-within k v)
     unfolding read-within
     sits-some zero n f v l q = absurd (omega arith)

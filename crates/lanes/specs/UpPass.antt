@@ -23,6 +23,7 @@ pub record Part : Type 0 where
   pub count : ℕ
   pub ends : ℕ → Bool
 
+-- THE PART IS RIGHT: it is what the automaton says of r with the expected cells m, on letter c.
 pub record PartOk (r : Sequence) (c : Letter) (m : Marks r) (p : Part) : Type 0 where
   pub empty-is : p .empty ≡ nullable r
   pub early-is : p .early ≡ early r c
@@ -38,9 +39,11 @@ choose false x y = y
 abbrev pub placed : ℕ → (ℕ → Bool) → ℕ → Bool
 placed k e l = choose (eqb l 7) (e 7) (ltb l 6 && shifted k e l)
 
+-- two counts together, 7 where more
 abbrev pub capped : ℕ → ℕ → ℕ
 capped j k = elim (ltb (j + k) 7) [ true ↦ j + k | false ↦ 7 ]
 
+-- the part of a cell, of `a ; b`, `a : b`, `a | b`, and of `a[*]` (true) or `a[+]` (false)
 abbrev pub cell-part : Bool → Bool → Part
 cell-part on live = record { empty = false; early = on; count = 1; ends = λ l. on && choose (eqb l 7) live (eqb 0 l) }
 
@@ -147,9 +150,11 @@ module _ (row : ℕ → Row) (live : ℕ → Bool → Bool) (c : Letter) (part :
   operand-by (r-left a) n f v = part v
   operand-by r-rest n f v = part v
 
+  -- what is found of the operand v in field f of row n
   abbrev pub operand : ℕ → Bool → ℕ → Part
   operand n f v = operand-by (row v) n f v
 
+  -- what the pass leaves at row v
   abbrev pub RowPart : Row → ℕ → Type 0
   RowPart (r-bool b) v = Unit
   RowPart (r-then a b) v = part v ≡ then-part (operand v false a) (operand v true b)
