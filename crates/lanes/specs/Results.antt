@@ -1,6 +1,6 @@
 -- The two passes together: what they leave at a left side, at a `never` and at a weak sequence is the step of the model.
 -- Nothing here has to be believed.
-use Prim.Native.Nat.{ℕ, _≤_, _<_}
+use Prim.Native.Nat.{ℕ, suc, _≤_, _<_}
 use native.Mathlib.Nat.{zero-add}
 use native.Mathlib.Omega.{arith}
 use native.Mathlib.Decide.{decLt}
@@ -19,15 +19,14 @@ use Rattle.lanes.specs.Bits.{tells-same}
 use Rattle.lanes.specs.OneLane.{fed, next, ended-is, next-top}
 use Rattle.lanes.specs.CellSets.{fill, own, fill-same, at, at-out, fill-at, own-high}
 use Rattle.lanes.specs.Families.{Lanes}
-use Rattle.lanes.specs.Rows.{Row, r-bool, r-then, r-fuse, r-alt, r-star, r-plus, r-weak, r-left, r-rest, Has, Sits, read-within, Operands, sits-some, sits-one, Lit, sits-lit}
+use Rattle.lanes.specs.Rows.{Row, r-bool, r-then, r-fuse, r-alt, r-star, r-plus, r-weak, r-left, r-rest, Has, Sits, read-within, sits-some, sits-one, Lit, sits-lit, Sound}
 use Rattle.lanes.specs.UpPass.{Part, operand, RowPart, part-ok}
 use Rattle.lanes.specs.Uses.{ended-lanes, ended-merged, ended-apart}
 use Rattle.lanes.specs.DownPass.{Work, LandsBy, weak-use, left-use, give, Landed, down-merged, down-apart}
-use Rattle.lanes.specs.DownLoop.{Sound, Placed, Sofar}
+use Rattle.lanes.specs.DownLoop.{Placed, Sofar, Visits, row-done, none-done}
 
 -- What is needed of an accepted table with 64 rows at most.
 pub record Table (row : ℕ → Row) : Type 0 where
-  pub operands : Operands row
   pub sound : Sound row
   pub beyond : (n : ℕ) → 64 ≤ n → row n ≡ r-rest
   pub few : (n a : ℕ) → row n ≡ r-weak a → cells (read-within row 63 a) ≤ 6
@@ -38,11 +37,11 @@ module _ (row : ℕ → Row) (t : Table row) (c : Letter) (enter : ℕ → Bool)
   sequence-of a = read-within row 63 a
 
   pub operand-low : (n v : ℕ) (f : Bool) → Has (row n) f v → v < 63
-  operand-low n v f i = elim (decLt n 64) [ yes l ↦ omega (arith, t .operands .falls n f v i) | no l ↦ absurd (rw (t .beyond n (omega arith)) at i) ]
+  operand-low n v f i = elim (decLt n 64) [ yes l ↦ omega (arith, t .sound .falls n f v i) | no l ↦ absurd (rw (t .beyond n (omega arith)) at i) ]
 
   module _ (live : ℕ → Bool → Bool) where
     pub sits-at : (n : ℕ) (f : Bool) (v : ℕ) → Has (row n) f v → (m : Marks (sequence-of v)) × Sits row live n f v (sequence-of v) m
-    sits-at n f v i = sits-some row live (t .operands) 63 n f v (operand-low n v f i) (t .operands .class n f v i)
+    sits-at n f v i = sits-some row live (t .sound) 63 n f v (operand-low n v f i) (t .sound .class n f v i)
 
     -- the cells expected in operand v of row n
     unfoldable pub marks-of : (n : ℕ) (f : Bool) (v : ℕ) → Has (row n) f v → Marks (sequence-of v)
@@ -113,7 +112,18 @@ module _ (row : ℕ → Row) (t : Table row) (c : Letter) (enter : ℕ → Bool)
       };
     }
 
-    module _ (all : (v : ℕ) → RowPart row live c part (row v) v) (d : Work) (h : Sofar row live c part enter reaches Waits 0 d) where
+    -- THE DOWNWARD PASS begins with nothing set, above all rows, and goes on row by row.
+    abbrev pub Done : ℕ → Work → Type 0
+    Done = Sofar row live c part enter reaches Waits
+
+    pub pass-begins : ((v : ℕ) → RowPart row live c part (row v) v) → (n : ℕ) (d : Work) → ((j : ℕ) → n ≤ j → row j ≡ r-rest)
+        → ((j : ℕ) (f : Bool) → d .after j f ≡ false) → ((o l q : ℕ) → d .rel o l q ≡ false) → Done n d
+    pass-begins all = none-done row live c part enter reaches Waits (t .sound) all weak-root left-root
+
+    pub pass-goes-on : ((v : ℕ) → RowPart row live c part (row v) v) → (n : ℕ) (d e : Work) → Done (suc n) d → Visits row live c part enter n d e → Done n e
+    pass-goes-on all = row-done row live c part enter reaches Waits (t .sound) all weak-root left-root
+
+    module _ (all : (v : ℕ) → RowPart row live c part (row v) v) (d : Work) (h : Done 0 d) where
       done : (n : ℕ) → Landed row live c part enter d n
       done n = h .landed n (omega arith)
 

@@ -40,6 +40,39 @@ Has (r-left a) false v = v ≡ a
 Has (r-left a) true v = ⊥
 Has r-rest f v = ⊥
 
+-- a row with two operands, and with one
+pub record Two (R : Row) (a b : ℕ) : Type 0 where
+  pub has-a : Has R false a
+  pub has-b : Has R true b
+  pub only-a : (v : ℕ) → Has R false v → v ≡ a
+  pub only-b : (v : ℕ) → Has R true v → v ≡ b
+
+pub record One (R : Row) (a : ℕ) : Type 0 where
+  pub has-a : Has R false a
+  pub only-a : (v : ℕ) → Has R false v → v ≡ a
+  pub none-b : (v : ℕ) → Has R true v → ⊥
+
+pub two-then : {a b : ℕ} → Two (r-then a b) a b
+two-then = record { has-a = refl; has-b = refl; only-a = λ v i. i; only-b = λ v i. i }
+
+pub two-fuse : {a b : ℕ} → Two (r-fuse a b) a b
+two-fuse = record { has-a = refl; has-b = refl; only-a = λ v i. i; only-b = λ v i. i }
+
+pub two-alt : {a b : ℕ} → Two (r-alt a b) a b
+two-alt = record { has-a = refl; has-b = refl; only-a = λ v i. i; only-b = λ v i. i }
+
+pub one-star : {a : ℕ} → One (r-star a) a
+one-star = record { has-a = refl; only-a = λ v i. i; none-b = λ v i. i }
+
+pub one-plus : {a : ℕ} → One (r-plus a) a
+one-plus = record { has-a = refl; only-a = λ v i. i; none-b = λ v i. i }
+
+pub one-weak : {a : ℕ} → One (r-weak a) a
+one-weak = record { has-a = refl; only-a = λ v i. i; none-b = λ v i. i }
+
+pub one-left : {a : ℕ} → One (r-left a) a
+one-left = record { has-a = refl; only-a = λ v i. i; none-b = λ v i. i }
+
 -- The operand v in field f of row n reads as r, and its expected cells are m: cells are named by row and field.
 pub data Sits (row : ℕ → Row) (live : ℕ → Bool → Bool) : ℕ → Bool → ℕ → (r : Sequence) → Marks r → Type 0 where
   s-cell : {n : ℕ} {f : Bool} {v : ℕ} {b : Boolean} {m : Bool} → row v ≡ r-bool b → m ≡ live n f → Sits row live n f v (cell b) m
@@ -75,6 +108,20 @@ IsSequence (r-weak a) = ⊥
 IsSequence (r-left a) = ⊥
 IsSequence r-rest = ⊥
 
+-- What is needed of an accepted table: operands are smaller, and are Booleans or sequences; a sequence row stands in one place, and in some.
+pub record Sound (row : ℕ → Row) : Type 0 where
+  pub falls : (n : ℕ) (f : Bool) (v : ℕ) → Has (row n) f v → v < n
+  pub class : (n : ℕ) (f : Bool) (v : ℕ) → Has (row n) f v → IsOperand (row v)
+  pub once : (n k : ℕ) (f g : Bool) (v : ℕ) → IsSequence (row v) → Has (row n) f v → Has (row k) g v → (n ≡ k) × (f ≡ g)
+  pub used : (v : ℕ) → IsSequence (row v) → (n : ℕ) × (f : Bool) × Has (row n) f v
+
+-- a cell in field f of row n
+pub record CellAt (row : ℕ → Row) (n : ℕ) (f : Bool) : Type 0 where
+  pub at : ℕ
+  pub boolean : Boolean
+  pub has : Has (row n) f at
+  pub is : row at ≡ r-bool boolean
+
 -- a row as a sequence, its operands being read by p; a row that is no operand is not asked for
 abbrev pub build : (ℕ → Sequence) → Row → Sequence
 build p (r-bool b) = cell b
@@ -93,12 +140,7 @@ module _ (row : ℕ → Row) where
   read-within zero v = cell (constant false)
   read-within (suc k) v = build (read-within k) (row v)
 
-  -- What is needed of an accepted table to read it: operands are smaller, and are Booleans or sequences.
-  pub record Operands : Type 0 where
-    pub falls : (n : ℕ) (f : Bool) (v : ℕ) → Has (row n) f v → v < n
-    pub class : (n : ℕ) (f : Bool) (v : ℕ) → Has (row n) f v → IsOperand (row v)
-
-  module _ (live : ℕ → Bool → Bool) (ops : Operands) where
+  module _ (live : ℕ → Bool → Bool) (sound : Sound row) where
     -- some marks with which the operand reads as r
     abbrev Sitting : ℕ → Bool → ℕ → Sequence → Type 0
     Sitting n f v r = (m : Marks r) × Sits row live n f v r m
@@ -115,7 +157,7 @@ module _ (row : ℕ → Row) where
     pub sits-some : (k n : ℕ) (f : Bool) (v : ℕ) → v < k → IsOperand (row v) → Sitting n f v (read-within k v)
     unfolding read-within
     sits-some zero n f v l q = absurd (omega arith)
-    sits-some (suc k) n f v l q = some-by k n f v (row v) refl q (λ g a i. sits-some k v g a (omega (arith, ops .falls v g a i)) (ops .class v g a i))
+    sits-some (suc k) n f v l q = some-by k n f v (row v) refl q (λ g a i. sits-some k v g a (omega (arith, sound .falls v g a i)) (sound .class v g a i))
 
   module _ (live : ℕ → Bool → Bool) where
     -- the marks are determined
