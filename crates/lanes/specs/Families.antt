@@ -72,7 +72,7 @@ pub record Lanes (r : Sequence) (c : Letter) (now : Bool) (E : ℕ → Bool) (R 
   pub inside : (l q : ℕ) → l < 7 → cells r ≤ q → R l q ≡ false
 
 module _ (E : ℕ → Bool) (R : ℕ → ℕ → Bool) where
-  -- the code's: whether the lanes p end it, and the set that they lead to
+  -- whether some lane of the set p ends it, and the set that its lanes lead to
   abbrev pub set-ends : ℕ → Bool
   set-ends p = any 7 (λ l. bit p l && E l)
 

@@ -18,7 +18,6 @@ module _ (row : ℕ → Row) where
   pub record Hands (n : ℕ) (f : Bool) (v : ℕ) (w : Use) (d e : Work) : Type 0 where
     pub lands : LandsBy e (row v) n f v w
     pub uses-else : (u : ℕ) → (u ≡ v → ⊥) → e .uses u ≡ d .uses u
-    pub uses-cell : (b : Boolean) → row v ≡ r-bool b → e .uses v ≡ d .uses v
     pub after-else : (j : ℕ) (g : Bool) → (j ≡ n → g ≡ f → ⊥) → e .after j g ≡ d .after j g
     pub after-new : e .after n f ≡ true → (d .after n f ≡ true) ⊎ ((b : Boolean) × (row v ≡ r-bool b) × (w .owner ≡ 64) × (w .go 7 ≡ true))
     pub rel-more : (o l q : ℕ) → d .rel o l q ≡ true → e .rel o l q ≡ true

@@ -6,8 +6,8 @@
 -- Up (UpPass): if each row's part is put together from its operands' parts (`RowPart`), each part tells whether it can be empty, can end at once, how many cells it has, and which lanes end it (`part-ok`).
 -- Down (Uses, DownPass): a use is `Fine` if, lane by lane, what it makes the part expect next is what the model says; what a row hands to its operands is Fine again.
 -- The loop (DownLoop), from large numbers to small: `Sofar n` holds when the rows from n on are done. Each of their operands has got what it was handed, and that is Fine; every bit that is set is right; below n nothing is set.
--- Bits are only ever added: "what is there is right" and "what is needed is there" are all that is kept, so no two cells need be shown apart. A row keeps it (`row-done`), and `Hands` says what storing one use has to do.
--- Results: when all rows are done, lane 7 holds a left side's match and its marks after the letter, a bit is left just if a left side still waits, and a weak sequence's lanes move its family (`sets-same`). Nothing here has to be believed.
+-- Bits are only ever added: "what is there is right" and "what is needed is there" are all that is kept, so no two cells need be shown apart. A visited row keeps it (`row-done`); `Hands` says what storing one use has to do, `visits-two` and the like make a visit of it.
+-- Results: the pass begins and goes on (`pass-begins`, `pass-goes-on`); when all rows are done, lane 7 holds a left side's match and its marks after the letter, a bit is left just if a left side still waits, and a weak sequence's lanes move its family (`sets-same`). Nothing here has to be believed.
 pub mod Bits
 pub mod OneLane
 pub mod CellSets
