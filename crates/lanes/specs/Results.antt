@@ -3,7 +3,6 @@
 use Prim.Native.Nat.{ℕ, suc, _≤_, _<_}
 use native.Mathlib.Nat.{zero-add}
 use native.Mathlib.Omega.{arith}
-use native.Mathlib.Decide.{decLt}
 use mathlib.Core.Path.{_≡_, refl, sym, _∙_, ap, ap₂, subst}
 use mathlib.Core.Bool.{Bool, true, false, _&&_, and-true, and-false}
 use mathlib.Core.Logic.{inr}
@@ -19,47 +18,14 @@ use Rattle.lanes.specs.Bits.{tells-same}
 use Rattle.lanes.specs.OneLane.{fed, next, ended-is, next-top}
 use Rattle.lanes.specs.CellSets.{fill, own, fill-same, at, at-out, fill-at, own-high}
 use Rattle.lanes.specs.Families.{Lanes}
-use Rattle.lanes.specs.Rows.{Row, r-bool, r-then, r-fuse, r-alt, r-star, r-plus, r-weak, r-left, r-rest, Has, Sits, read-within, sits-some, sits-one, Lit, sits-lit, Sound}
+use Rattle.lanes.specs.Rows.{Row, r-bool, r-then, r-fuse, r-alt, r-star, r-plus, r-weak, r-left, r-rest, Sits, sits-one, Lit, sits-lit}
+use Rattle.lanes.specs.Expected.{sequence-of, Table, weak-has, left-has, weak-low, marks-of, marks-sit}
 use Rattle.lanes.specs.UpPass.{Part, operand, RowPart, part-ok}
 use Rattle.lanes.specs.Uses.{ended-lanes, ended-merged, ended-apart}
 use Rattle.lanes.specs.DownPass.{Work, LandsBy, weak-use, left-use, give, Landed, down-merged, down-apart}
 use Rattle.lanes.specs.DownLoop.{Placed, Sofar, Visits, row-done, none-done}
 
--- What is needed of an accepted table with 64 rows at most.
-pub record Table (row : ℕ → Row) : Type 0 where
-  pub sound : Sound row
-  pub beyond : (n : ℕ) → 64 ≤ n → row n ≡ r-rest
-  pub few : (n a : ℕ) → row n ≡ r-weak a → cells (read-within row 63 a) ≤ 6
-
 module _ (row : ℕ → Row) (t : Table row) (c : Letter) (enter : ℕ → Bool) where
-  -- the sequence of a weak node or a left side whose operand is a
-  abbrev pub sequence-of : ℕ → Sequence
-  sequence-of a = read-within row 63 a
-
-  pub operand-low : (n v : ℕ) (f : Bool) → Has (row n) f v → v < 63
-  operand-low n v f i = elim (decLt n 64) [ yes l ↦ omega (arith, t .sound .falls n f v i) | no l ↦ absurd (rw (t .beyond n (omega arith)) at i) ]
-
-  module _ (live : ℕ → Bool → Bool) where
-    pub sits-at : (n : ℕ) (f : Bool) (v : ℕ) → Has (row n) f v → (m : Marks (sequence-of v)) × Sits row live n f v (sequence-of v) m
-    sits-at n f v i = sits-some row live (t .sound) 63 n f v (operand-low n v f i) (t .sound .class n f v i)
-
-    -- the cells expected in operand v of row n
-    unfoldable pub marks-of : (n : ℕ) (f : Bool) (v : ℕ) → Has (row n) f v → Marks (sequence-of v)
-    marks-of n f v i = sits-at n f v i .0
-
-    pub marks-sit : (n : ℕ) (f : Bool) (v : ℕ) (i : Has (row n) f v) → Sits row live n f v (sequence-of v) (marks-of n f v i)
-    unfolding marks-of
-    marks-sit n f v i = sits-at n f v i .1
-
-  pub weak-has : (n a : ℕ) → row n ≡ r-weak a → Has (row n) false a
-  weak-has n a e = rw e refl
-
-  pub left-has : (n a : ℕ) → row n ≡ r-left a → Has (row n) false a
-  left-has n a e = rw e refl
-
-  pub weak-low : (n a : ℕ) → row n ≡ r-weak a → n < 64
-  weak-low n a e = elim (decLt n 64) [ yes l ↦ l | no l ↦ (let h = t .beyond n (omega arith) in let z : _≡_ {A = ℕ} 0 1 = cc in absurd (omega arith)) ]
-
   -- the lanes that lead to each cell of a weak node
   abbrev pub reaches-by : Row → ℕ → ℕ → ℕ → Bool
   reaches-by (r-bool b) o l q = false
@@ -68,7 +34,7 @@ module _ (row : ℕ → Row) (t : Table row) (c : Letter) (enter : ℕ → Bool)
   reaches-by (r-alt a b) o l q = false
   reaches-by (r-star a) o l q = false
   reaches-by (r-plus a) o l q = false
-  reaches-by (r-weak a) o l q = at (sequence-of a) 0 (next (sequence-of a) c (own (sequence-of a) 0 l) (enter o && eqb l 6) false) q
+  reaches-by (r-weak a) o l q = at (sequence-of row a) 0 (next (sequence-of row a) c (own (sequence-of row a) 0 l) (enter o && eqb l 6) false) q
   reaches-by (r-left a) o l q = false
   reaches-by r-rest o l q = false
 
@@ -77,38 +43,38 @@ module _ (row : ℕ → Row) (t : Table row) (c : Letter) (enter : ℕ → Bool)
 
   module _ (live : ℕ → Bool → Bool) (part : ℕ → Part) where
     -- the marks of a left side after the letter
-    abbrev pub marks-next : (n a : ℕ) → row n ≡ r-left a → Marks (sequence-of a)
-    marks-next n a e = step (sequence-of a) c (fed (sequence-of a) (marks-of live n false a (left-has n a e)) (enter n)) .1
+    abbrev pub marks-next : (n a : ℕ) → row n ≡ r-left a → Marks (sequence-of row a)
+    marks-next n a e = step (sequence-of row a) c (fed (sequence-of row a) (marks-of row t live n false a (left-has row n a e)) (enter n)) .1
 
     pub record Waits : Type 0 where
       pub node : ℕ
       pub arg : ℕ
       pub left : row node ≡ r-left arg
-      pub some : T (any (sequence-of arg) (marks-next node arg left))
+      pub some : T (any (sequence-of row arg) (marks-next node arg left))
 
-    left-next : (n a : ℕ) (e : row n ≡ r-left a) → next (sequence-of a) c (marks-of live n false a (left-has n a e)) (enter n && true) false ≡ marks-next n a e
-    left-next n a e = next-top (sequence-of a) c (marks-of live n false a (left-has n a e)) (enter n && true)
-        ∙ ap (λ (i : Bool). step (sequence-of a) c (fed (sequence-of a) (marks-of live n false a (left-has n a e)) i) .1) (and-true (enter n))
+    left-next : (n a : ℕ) (e : row n ≡ r-left a) → next (sequence-of row a) c (marks-of row t live n false a (left-has row n a e)) (enter n && true) false ≡ marks-next n a e
+    left-next n a e = next-top (sequence-of row a) c (marks-of row t live n false a (left-has row n a e)) (enter n && true)
+        ∙ ap (λ (i : Bool). step (sequence-of row a) c (fed (sequence-of row a) (marks-of row t live n false a (left-has row n a e)) i) .1) (and-true (enter n))
 
     pub weak-root : (n a : ℕ) → row n ≡ r-weak a → Placed row live c part enter reaches Waits n false a (weak-use n (enter n))
     weak-root n a e = record {
-      sequence = sequence-of a;
-      marks = marks-of live n false a (weak-has n a e);
-      sits = marks-sit live n false a (weak-has n a e);
+      sequence = sequence-of row a;
+      marks = marks-of row t live n false a (weak-has row n a e);
+      sits = marks-sit row t live n false a (weak-has row n a e);
       fine = record {
-        apart = λ o. record { fits = rw zero-add (t .few n a e); leads = λ l i. sym (fill-at (sequence-of a) 0 (next (sequence-of a) c (own (sequence-of a) 0 l) (enter n && eqb l 6) false)) ∙ ap (λ R. fill (sequence-of a) 0 (reaches-by R n l)) (sym e) };
-        merged = λ o k. absurd (omega (arith, weak-low n a e));
+        apart = λ o. record { fits = rw zero-add (t .few n a e); leads = λ l i. sym (fill-at (sequence-of row a) 0 (next (sequence-of row a) c (own (sequence-of row a) 0 l) (enter n && eqb l 6) false)) ∙ ap (λ R. fill (sequence-of row a) 0 (reaches-by R n l)) (sym e) };
+        merged = λ o k. absurd (omega (arith, weak-low row t n a e));
       };
     }
 
     pub left-root : (n a : ℕ) → row n ≡ r-left a → Placed row live c part enter reaches Waits n false a (left-use (enter n))
     left-root n a e = record {
-      sequence = sequence-of a;
-      marks = marks-of live n false a (left-has n a e);
-      sits = marks-sit live n false a (left-has n a e);
+      sequence = sequence-of row a;
+      marks = marks-of row t live n false a (left-has row n a e);
+      sits = marks-sit row t live n false a (left-has row n a e);
       fine = record {
         apart = λ o. absurd (omega arith);
-        merged = λ o k. record { node = n; arg = a; left = e; some = subst (λ z. T (any (sequence-of a) z)) (left-next n a e) k };
+        merged = λ o k. record { node = n; arg = a; left = e; some = subst (λ z. T (any (sequence-of row a) z)) (left-next n a e) k };
       };
     }
 
@@ -129,18 +95,18 @@ module _ (row : ℕ → Row) (t : Table row) (c : Letter) (enter : ℕ → Bool)
 
       -- LEFT SIDES AND NEVER: whether a match ends, and the cells expected next
       pub left-hit : (n a : ℕ) (e : row n ≡ r-left a)
-          → ended-lanes (operand row live c part n false a) (left-use (enter n)) 7 ≡ step (sequence-of a) c (fed (sequence-of a) (marks-of live n false a (left-has n a e)) (enter n)) .0
+          → ended-lanes (operand row live c part n false a) (left-use (enter n)) 7 ≡ step (sequence-of row a) c (fed (sequence-of row a) (marks-of row t live n false a (left-has row n a e)) (enter n)) .0
       left-hit n a e =
-          let m = marks-of live n false a (left-has n a e) in
-          ended-merged (part-ok row live c part all (marks-sit live n false a (left-has n a e))) (left-use (enter n)) refl
-          ∙ ended-is (sequence-of a) c m (enter n && true) ∙ ap (λ (i : Bool). step (sequence-of a) c (fed (sequence-of a) m i) .0) (and-true (enter n))
+          let m = marks-of row t live n false a (left-has row n a e) in
+          ended-merged (part-ok row live c part all (marks-sit row t live n false a (left-has row n a e))) (left-use (enter n)) refl
+          ∙ ended-is (sequence-of row a) c m (enter n && true) ∙ ap (λ (i : Bool). step (sequence-of row a) c (fed (sequence-of row a) m i) .0) (and-true (enter n))
 
-      pub left-after : (n a : ℕ) (e : row n ≡ r-left a) → marks-of (d .after) n false a (left-has n a e) ≡ marks-next n a e
+      pub left-after : (n a : ℕ) (e : row n ≡ r-left a) → marks-of row t (d .after) n false a (left-has row n a e) ≡ marks-next n a e
       left-after n a e =
-          let i = left-has n a e in
-          sits-one row (d .after) (marks-sit (d .after) n false a i)
-          (subst (λ z. Sits row (d .after) n false a (sequence-of a) z) (left-next n a e)
-          (down-merged row live c part enter all d done (marks-sit live n false a i) (left-use (enter n)) refl
+          let i = left-has row n a e in
+          sits-one row (d .after) (marks-sit row t (d .after) n false a i)
+          (subst (λ z. Sits row (d .after) n false a (sequence-of row a) z) (left-next n a e)
+          (down-merged row live c part enter all d done (marks-sit row t live n false a i) (left-use (enter n)) refl
           (subst (λ R. LandsBy d (row a) n false a (give row live c part enter R n false (d .uses n))) e (done n false a i))))
 
       -- some bit is set just if some left side still has an expected cell
@@ -148,23 +114,23 @@ module _ (row : ℕ → Row) (t : Table row) (c : Letter) (enter : ℕ → Bool)
       after-waits x = h .after-right (x .0) (x .1) (x .2)
 
       pub waits-after : Waits → Lit row (d .after)
-      waits-after x = sits-lit row (d .after) (marks-sit (d .after) (x .node) false (x .arg) (left-has (x .node) (x .arg) (x .left)))
-          (subst (λ z. T (any (sequence-of (x .arg)) z)) (sym (left-after (x .node) (x .arg) (x .left))) (x .some))
+      waits-after x = sits-lit row (d .after) (marks-sit row t (d .after) (x .node) false (x .arg) (left-has row (x .node) (x .arg) (x .left)))
+          (subst (λ z. T (any (sequence-of row (x .arg)) z)) (sym (left-after (x .node) (x .arg) (x .left))) (x .some))
 
       -- WEAK NODES: the relation is that of the cells
       module _ (n a : ℕ) (e : row n ≡ r-weak a) where
         abbrev r : Sequence
-        r = sequence-of a
+        r = sequence-of row a
 
-        sit : Sits row live n false a r (marks-of live n false a (weak-has n a e))
-        sit = marks-sit live n false a (weak-has n a e)
+        sit : Sits row live n false a r (marks-of row t live n false a (weak-has row n a e))
+        sit = marks-sit row t live n false a (weak-has row n a e)
 
         rel-is : (l q : ℕ) → l < 7 → q < cells r → d .rel n l q ≡ reaches n l q
         unfolding weak-root
         rel-is l q i j = tells-same (tells-value (d .rel n l q)) (tells-value (reaches n l q))
-            (h .rel-right n l q (weak-low n a e) i)
-            (down-apart row live c part enter all d done reaches Waits sit (weak-use n (enter n)) (weak-low n a e) (weak-root n a e .fine)
-            (subst (λ R. LandsBy d (row a) n false a (give row live c part enter R n false (d .uses n))) e (done n false a (weak-has n a e)))
+            (h .rel-right n l q (weak-low row t n a e) i)
+            (down-apart row live c part enter all d done reaches Waits sit (weak-use n (enter n)) (weak-low row t n a e) (weak-root n a e .fine)
+            (subst (λ R. LandsBy d (row a) n false a (give row live c part enter R n false (d .uses n))) e (done n false a (weak-has row n a e)))
             q (omega arith, omega arith) l i)
 
         rel-fill : (l : ℕ) → l < 7 → next r c (own r 0 l) (enter n && eqb l 6) false ≡ fill r 0 (d .rel n l)
@@ -174,7 +140,7 @@ module _ (row : ℕ → Row) (t : Table row) (c : Letter) (enter : ℕ → Bool)
         lane : (l : ℕ) (i : l < 7) → (step r c (fed r (own r 0 l) (enter n && eqb l 6)) .0 ≡ ended-lanes (operand row live c part n false a) (weak-use n (enter n)) l)
             × (step r c (fed r (own r 0 l) (enter n && eqb l 6)) .1 ≡ fill r 0 (d .rel n l))
         lane l i = (
-          sym (ended-apart (part-ok row live c part all sit) (weak-use n (enter n)) (weak-low n a e) (rw zero-add (t .few n a e)) l i ∙ ended-is r c (own r 0 l) (enter n && eqb l 6)),
+          sym (ended-apart (part-ok row live c part all sit) (weak-use n (enter n)) (weak-low row t n a e) (rw zero-add (t .few n a e)) l i ∙ ended-is r c (own r 0 l) (enter n && eqb l 6)),
           sym (next-top r c (own r 0 l) (enter n && eqb l 6)) ∙ rel-fill l i,
         )
 
@@ -189,5 +155,5 @@ module _ (row : ℕ → Row) (t : Table row) (c : Letter) (enter : ℕ → Bool)
           few = t .few n a e;
           each = λ l i. (let k = lane l (omega arith) in (ap (λ m. step r c m .0) (sym (old l i)) ∙ k .0, ap (λ m. step r c m .1) (sym (old l i)) ∙ k .1));
           fresh = (let k = lane 6 (omega arith) in (ap (λ m. step r c m .0) (sym new) ∙ k .0, ap (λ m. step r c m .1) (sym new) ∙ k .1));
-          inside = λ l q i j. tells-no (tells-value (d .rel n l q)) (λ z. subst T (sym (h .rel-right n l q (weak-low n a e) i z) ∙ ap (λ R. reaches-by R n l q) e ∙ at-out r 0 _ q (inr (omega arith))) tt);
+          inside = λ l q i j. tells-no (tells-value (d .rel n l q)) (λ z. subst T (sym (h .rel-right n l q (weak-low row t n a e) i z) ∙ ap (λ R. reaches-by R n l q) e ∙ at-out r 0 _ q (inr (omega arith))) tt);
         }
