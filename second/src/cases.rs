@@ -80,7 +80,8 @@ fn add_verdicts(random: &mut Random, vectors: &mut Vectors, count: usize) {
 /// A table for the damages to start from.
 fn table_to_damage(random: &mut Random, numbers: &[usize]) -> Draft {
     if numbers.contains(&11) {
-        let counts: &[usize] = random.pick(&[&[7], &[6, 7], &[7, 8], &[6, 6, 7], &[1, 20], &[40]]);
+        let counts: [&[usize]; 6] = [&[7], &[6, 7], &[7, 8], &[6, 6, 7], &[1, 20], &[40]];
+        let counts = random.pick(&counts);
         return tables::weak_of_cells(random, counts);
     }
     match random.below(8) {
@@ -121,17 +122,23 @@ fn damaged_case(random: &mut Random, numbers: &[usize]) -> Case {
     if numbers.contains(&13) {
         set_high_bits(random, draft.signals, &mut samples);
     }
-    let mut trace = traces::bytes(draft.signals, &samples);
-    if numbers.contains(&15) && random.chance(1, 40) {
-        trace = too_long(draft.signals);
-    } else if numbers.contains(&15) {
-        damage_trace(random, &mut trace, draft.signals);
-    }
     let mut property = random.below(properties) as u32;
     if numbers.contains(&12) {
         property = wrong_property(random, draft.roots.len(), property);
     }
+    let trace = written_trace(random, draft.signals, &samples, numbers.contains(&15));
     Case::judge(bytes, trace, property)
+}
+
+fn written_trace(random: &mut Random, signals: usize, samples: &[u32], damaged: bool) -> Vec<u8> {
+    if damaged && random.chance(1, 40) {
+        return too_long(signals);
+    }
+    let mut trace = traces::bytes(signals, samples);
+    if damaged {
+        damage_trace(random, &mut trace, signals);
+    }
+    trace
 }
 
 /// Tries until one damage gives its own refusal; what passes meanwhile is kept now and then.

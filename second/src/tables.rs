@@ -203,7 +203,8 @@ pub fn of_nodes(random: &mut Random, nodes: usize) -> Draft {
 /// A left side or a never with many cells, up to 63.
 pub fn wide(random: &mut Random) -> Draft {
     let cells = random.pick(&[7, 8, 12, 20, 40, 62, 63]);
-    let kinds: &[u8] = random.pick(&[&[16, 17, 18], &[17, 18, 18], &[16, 18, 18, 18], &[16]]);
+    let mixes: [&[u8]; 4] = [&[16, 17, 18], &[17, 18, 18], &[16, 18, 18, 18], &[16]];
+    let kinds = random.pick(&mixes);
     let mut maker = Maker::new(random, 1);
     for _ in 0..(MOST_NODES - 1 - cells).min(2) {
         maker.new_boolean();

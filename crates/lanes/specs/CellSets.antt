@@ -10,10 +10,10 @@ use lib.Dec.{eqb}
 use lib.Pow.{shr-shr, mod-pow-add}
 use Rattle.psl.specs.Booleans.{bit}
 use Rattle.psl.specs.Sequences.{Sequence, cell, then, fuse, alt, star, plus}
-use Rattle.psl.specs.Marks.Automaton.{Marks, empty, join, gate}
-use Rattle.psl.specs.Marks.Masks.{cells, mask, unmask, digit}
-use Rattle.psl.specs.Marks.Linear.{two}
-use Rattle.psl.specs.Decide.Tells.{tells-eq, tells-no, true-tells}
+use Rattle.psl.specs.Proof.Marks.Automaton.{Marks, empty, join, gate}
+use Rattle.psl.specs.Proof.Marks.Masks.{cells, mask, unmask, digit}
+use Rattle.psl.specs.Proof.Marks.Linear.{two}
+use Rattle.psl.specs.Proof.Decide.Tells.{tells-eq, tells-no, true-tells}
 use Rattle.lanes.specs.Bits.{tells-same}
 
 -- cell number k, counted from the left, from b on, is marked just if f k

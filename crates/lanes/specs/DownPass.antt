@@ -8,8 +8,8 @@ use mathlib.Core.Bool.{Bool, true, false, _&&_}
 use lib.Dec.{eqb}
 use Rattle.psl.specs.Booleans.{Letter}
 use Rattle.psl.specs.Sequences.{Sequence}
-use Rattle.psl.specs.Marks.Automaton.{Marks}
-use Rattle.psl.specs.Marks.Masks.{cells}
+use Rattle.psl.specs.Proof.Marks.Automaton.{Marks}
+use Rattle.psl.specs.Proof.Marks.Masks.{cells}
 use Rattle.lanes.specs.OneLane.{next}
 use Rattle.lanes.specs.Rows.{Row, r-bool, r-then, r-fuse, r-alt, r-star, r-plus, r-weak, r-left, r-rest, Has, Sits, s-cell, s-then, s-fuse, s-alt, s-star, s-plus}
 use Rattle.lanes.specs.UpPass.{Part, operand, RowPart, part-ok}

@@ -6,8 +6,8 @@ use native.Mathlib.Decide.{decLt}
 use mathlib.Core.Path.{_≡_, refl}
 use mathlib.Core.Bool.{Bool, false}
 use Rattle.psl.specs.Sequences.{Sequence}
-use Rattle.psl.specs.Marks.Automaton.{Marks}
-use Rattle.psl.specs.Marks.Masks.{cells}
+use Rattle.psl.specs.Proof.Marks.Automaton.{Marks}
+use Rattle.psl.specs.Proof.Marks.Masks.{cells}
 use Rattle.lanes.specs.Rows.{Row, r-weak, r-left, r-rest, Has, Sits, read-within, sits-some, Sound}
 
 module _ (row : ℕ → Row) where

@@ -11,11 +11,11 @@ use lib.Bits.{bitOr, or-lt}
 use lib.Pow.{pow-lt, pow-mono}
 use Rattle.psl.specs.Booleans.{Letter, sample, bit}
 use Rattle.psl.specs.Sequences.{Sequence}
-use Rattle.psl.specs.Marks.Automaton.{gate, first, step}
-use Rattle.psl.specs.Marks.Masks.{cells, mask, unmask, mask-lt, unmask-mask}
-use Rattle.psl.specs.Decide.Tells.{any, tells-eq, tells-or, tells-and, tells-value, tells-any}
-use Rattle.psl.specs.Model.Machine.{machine}
-use Rattle.psl.specs.Model.Monitor.{setsAfter}
+use Rattle.psl.specs.Proof.Marks.Automaton.{gate, first, step}
+use Rattle.psl.specs.Proof.Marks.Masks.{cells, mask, unmask, mask-lt, unmask-mask}
+use Rattle.psl.specs.Proof.Decide.Tells.{any, tells-eq, tells-or, tells-and, tells-value, tells-any}
+use Rattle.psl.specs.Proof.Model.Machine.{machine}
+use Rattle.psl.specs.Proof.Model.Monitor.{setsAfter}
 use Rattle.lanes.specs.Bits.{tells-same, bit-on}
 use Rattle.lanes.specs.CellSets.{fill, own, fill-same, unmask-fill, mask-unmask}
 use Rattle.lanes.specs.SetSteps.{below, below-suc, below-zero, below-all, step-set}

@@ -4,8 +4,8 @@ use mathlib.Core.Path.{_≡_, refl, sym, _∙_, ap, ap₂}
 use mathlib.Core.Bool.{Bool, true, false, _&&_, _||_, or-comm, and-true, and-false, and-comm}
 use Rattle.psl.specs.Booleans.{Letter, satisfies}
 use Rattle.psl.specs.Sequences.{Sequence, cell, then, fuse, alt, star, plus}
-use Rattle.psl.specs.Marks.Automaton.{Marks, empty, join, gate, nullable, first, step}
-use Rattle.psl.specs.Marks.Linear.{join-empty-r, join-empty-l, join4, gate-or, step-join, step-empty, two}
+use Rattle.psl.specs.Proof.Marks.Automaton.{Marks, empty, join, gate, nullable, first, step}
+use Rattle.psl.specs.Proof.Marks.Linear.{join-empty-r, join-empty-l, join4, gate-or, step-join, step-empty, two}
 
 -- the marks that read the letter: the lane's own, and the first cells if the lane enters now
 abbrev pub fed : (r : Sequence) → Marks r → Bool → Marks r

@@ -9,10 +9,10 @@ use mathlib.Core.Logic.{⊎-elim}
 use lib.Dec.{T}
 use Rattle.psl.specs.Booleans.{Boolean, constant}
 use Rattle.psl.specs.Sequences.{Sequence, cell, then, fuse, alt, star, plus}
-use Rattle.psl.specs.Marks.Automaton.{Marks}
-use Rattle.psl.specs.Marks.Words.{or-e}
-use Rattle.psl.specs.Marks.Feed.{any}
-use Rattle.psl.specs.Marks.Linear.{two}
+use Rattle.psl.specs.Proof.Marks.Automaton.{Marks}
+use Rattle.psl.specs.Proof.Marks.Words.{or-e}
+use Rattle.psl.specs.Proof.Marks.Feed.{any}
+use Rattle.psl.specs.Proof.Marks.Linear.{two}
 
 -- A row as the sequences see it: a Boolean; a sequence of operands; a weak sequence; a left side or never; another property.
 pub data Row : Type 0 where

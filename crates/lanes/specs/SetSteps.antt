@@ -9,10 +9,10 @@ use mathlib.Core.Logic.{_⊎_, inl, inr, ⊎-elim}
 use lib.Dec.{eqb, ltb}
 use Rattle.psl.specs.Booleans.{Letter}
 use Rattle.psl.specs.Sequences.{Sequence}
-use Rattle.psl.specs.Marks.Automaton.{empty, join, gate, step}
-use Rattle.psl.specs.Marks.Masks.{cells}
-use Rattle.psl.specs.Marks.Linear.{step-join, step-empty}
-use Rattle.psl.specs.Decide.Tells.{any, Tells, does, doesnt, tells-eq, tells-or, tells-lt}
+use Rattle.psl.specs.Proof.Marks.Automaton.{empty, join, gate, step}
+use Rattle.psl.specs.Proof.Marks.Masks.{cells}
+use Rattle.psl.specs.Proof.Marks.Linear.{step-join, step-empty}
+use Rattle.psl.specs.Proof.Decide.Tells.{any, Tells, does, doesnt, tells-eq, tells-or, tells-lt}
 use Rattle.lanes.specs.Bits.{tells-same}
 use Rattle.lanes.specs.CellSets.{fill, own, fill-same, fill-or, fill-none, fill-gate}
 

@@ -8,9 +8,9 @@ use mathlib.Core.Bool.{Bool, true, false, _&&_, _||_, or-false, or-true, and-com
 use lib.Dec.{eqb, ltb}
 use Rattle.psl.specs.Booleans.{Boolean, Letter, satisfies}
 use Rattle.psl.specs.Sequences.{Sequence, cell, then, fuse, alt, star, plus}
-use Rattle.psl.specs.Marks.Automaton.{Marks, nullable}
-use Rattle.psl.specs.Marks.Masks.{cells}
-use Rattle.psl.specs.Decide.Tells.{Tells, does, doesnt, tells-eq, tells-no, true-tells, tells-lt}
+use Rattle.psl.specs.Proof.Marks.Automaton.{Marks, nullable}
+use Rattle.psl.specs.Proof.Marks.Masks.{cells}
+use Rattle.psl.specs.Proof.Decide.Tells.{Tells, does, doesnt, tells-eq, tells-no, true-tells, tells-lt}
 use Rattle.lanes.specs.OneLane.{early, ends, early-then, early-fuse}
 use Rattle.lanes.specs.CellSets.{own}
 use Rattle.lanes.specs.ShiftedLanes.{shifted, Cap, exact, over, lane-shift}

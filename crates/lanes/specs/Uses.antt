@@ -8,11 +8,11 @@ use mathlib.Core.Bool.{Bool, false, _&&_, _||_, and-true}
 use lib.Dec.{T, eqb, ltb}
 use Rattle.psl.specs.Booleans.{Boolean, Letter}
 use Rattle.psl.specs.Sequences.{Sequence, cell, then, fuse, alt, star, plus}
-use Rattle.psl.specs.Marks.Automaton.{Marks, nullable}
-use Rattle.psl.specs.Marks.Words.{or-l, or-r}
-use Rattle.psl.specs.Marks.Feed.{any}
-use Rattle.psl.specs.Marks.Masks.{cells}
-use Rattle.psl.specs.Decide.Tells.{tells-no, true-tells, tells-lt}
+use Rattle.psl.specs.Proof.Marks.Automaton.{Marks, nullable}
+use Rattle.psl.specs.Proof.Marks.Words.{or-l, or-r}
+use Rattle.psl.specs.Proof.Marks.Feed.{any}
+use Rattle.psl.specs.Proof.Marks.Masks.{cells}
+use Rattle.psl.specs.Proof.Decide.Tells.{tells-no, true-tells, tells-lt}
 use Rattle.lanes.specs.OneLane.{ends, ended, next}
 use Rattle.lanes.specs.CellSets.{fill, own, own-high}
 use Rattle.lanes.specs.ShiftedLanes.{ends-empty, Cap, exact, over, lane-shift}
