@@ -22,3 +22,4 @@ pub mod DownPass
 pub mod DownLoop
 pub mod Hands
 pub mod Results
+pub mod State

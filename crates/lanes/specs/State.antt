@@ -1,0 +1,80 @@
+-- What the engine keeps against what the model keeps: after each sample the one represents the other. Nothing here has to be believed.
+use Prim.Native.Nat.{ℕ, suc, _≤_, _<_, _^_, _%_}
+use native.Mathlib.Nat.{mod-eq-of-lt}
+use native.Mathlib.Omega.{arith}
+use mathlib.Core.Path.{_≡_, refl, sym, _∙_, ap, ap₂, subst}
+use mathlib.Core.Bool.{Bool, true, false, not, _&&_, _||_, or-false}
+use mathlib.Core.Logic.{_⊎_, inl, inr, ⊎-elim}
+use lib.Dec.{T, eqb, eqb→eq}
+use Rattle.psl.specs.Booleans.{sample}
+use Rattle.psl.specs.Sequences.{Sequence, cell, then, fuse, alt, star, plus}
+use Rattle.psl.specs.Proof.Marks.Automaton.{Marks, empty, join, gate, first, step}
+use Rattle.psl.specs.Proof.Marks.Feed as Feed
+use Rattle.psl.specs.Proof.Marks.Masks.{cells, mask, unmask, mask-lt, mask-empty}
+use Rattle.psl.specs.Proof.Marks.Linear.{step-empty, join-empty-r, two}
+use Rattle.psl.specs.Proof.Marks.Words.{or-e}
+use Rattle.psl.specs.Proof.Decide.Tells.{Tells, does, doesnt, any, tells-any, tells-and, tells-not-value, tells-value, tells-eq, tells-true, tells-no, tells-or}
+use Rattle.psl.specs.Proof.Model.Nodes.{Node, n-weak, n-never, n-suffix, n-suffix-next}
+use Rattle.psl.specs.Proof.Model.Auto.{Sets, Good, feed}
+use Rattle.psl.specs.Proof.Model.Machine.{machine, good, back, any-empty}
+use Rattle.psl.specs.Proof.Model.Monitor.{use-of, none, merged, ever, apart, Use, State, endsNow, markAfter, setsAfter, noMark, opened}
+use Rattle.lanes.specs.OneLane.{fed}
+use Rattle.lanes.specs.CellSets.{mask-unmask}
+use Rattle.lanes.specs.Rows.{Row, r-weak, r-left, Has, Lit, Sits, sits-lit}
+use Rattle.lanes.specs.Expected.{sequence-of, Table, weak-has, left-has, marks-of, marks-sit}
+
+-- A bit of each row that is owed or running; of each cell that a left side or a `never` expects, by row and field; the pending sets of each weak sequence.
+pub record Kept : Type 0 where
+  pub held : ℕ → Bool
+  pub live : ℕ → Bool → Bool
+  pub sets : ℕ → ℕ → Bool
+
+-- A row, and the node that it is to the model: only weak sequences, left sides and `never` have a sequence.
+pub data Shape (row : ℕ → Row) : Row → Node → Type 0 where
+  of-weak : {a : ℕ} → Shape row (r-weak a) (n-weak (sequence-of row a))
+  of-never : {a : ℕ} → Shape row (r-left a) (n-never (sequence-of row a))
+  of-suffix : {a c : ℕ} → Shape row (r-left a) (n-suffix (sequence-of row a) c)
+  of-suffix-next : {a c : ℕ} → Shape row (r-left a) (n-suffix-next (sequence-of row a) c)
+  of-other : {R : Row} {nd : Node} → ((a : ℕ) → R ≡ r-weak a → ⊥) → ((a : ℕ) → R ≡ r-left a → ⊥) → use-of nd ≡ none → Shape row R nd
+
+-- A fresh attempt at a node's sequence: a `never` that runs starts one at every sample.
+abbrev pub entered : Use → Bool → Bool → Bool
+entered none now held = now
+entered (merged r) now held = now
+entered (ever r) now held = held || now
+entered (apart r) now held = now
+
+abbrev pub IsNever : Use → Type 0
+IsNever none = ⊥
+IsNever (merged r) = ⊥
+IsNever (ever r) = Unit
+IsNever (apart r) = ⊥
+
+module _ (row : ℕ → Row) (t : Table row) where
+  -- the marks of the left side n
+  abbrev pub left-marks : (ℕ → Bool → Bool) → (n a : ℕ) → row n ≡ r-left a → Marks (sequence-of row a)
+  left-marks live n a e = marks-of row t live n false a (left-has row n a e)
+
+  pub record Represents (node : ℕ → Node) (k : Kept) (st : State) : Type 0 where
+    pub held-is : (n : ℕ) → st .held n ≡ k .held n
+    pub mark-is : (n a : ℕ) (e : row n ≡ r-left a) → st .mark n ≡ mask (sequence-of row a) (left-marks (k .live) n a e)
+    pub sets-are : (n a : ℕ) → row n ≡ r-weak a → (s : ℕ) → st .bits n s ≡ k .sets n s
+    pub sets-small : (n a : ℕ) → row n ≡ r-weak a → (s : ℕ) → k .sets n s ≡ true → s < 2 ^ cells (sequence-of row a)
+    pub never-runs : (n a : ℕ) (e : row n ≡ r-left a) → IsNever (use-of (node n)) → T (Feed.any (sequence-of row a) (left-marks (k .live) n a e)) → k .held n ≡ true
+
+-- Marks as masks: what reads the letter, and marks of which none is set.
+pub fed-same : (r : Sequence) (m : Marks r) (now : Bool) → unmask r (feed machine r now (mask r m)) ≡ fed r m now
+fed-same r m true = back r _ ∙ ap₂ (join r) (back r m) (back r (first r))
+fed-same r m false = back r _ ∙ ap₂ (join r) (back r m) (back r (empty r))
+
+or-none : (a b : Bool) → a || b ≡ false → (a ≡ false) × (b ≡ false)
+or-none true b e = absurd (subst T e tt)
+or-none false b e = (refl, e)
+
+pub none-marked : (r : Sequence) (m : Marks r) → Feed.any r m ≡ false → m ≡ empty r
+none-marked (cell b) m e = e
+none-marked (then a b) m e = let h = or-none _ _ e in two (none-marked a (m .0) (h .0)) (none-marked b (m .1) (h .1))
+none-marked (fuse a b) m e = let h = or-none _ _ e in two (none-marked a (m .0) (h .0)) (none-marked b (m .1) (h .1))
+none-marked (alt a b) m e = let h = or-none _ _ e in two (none-marked a (m .0) (h .0)) (none-marked b (m .1) (h .1))
+none-marked (star a) m e = none-marked a m e
+none-marked (plus a) m e = none-marked a m e
