@@ -23,3 +23,4 @@ pub mod DownLoop
 pub mod Hands
 pub mod Results
 pub mod State
+pub mod StateStep

@@ -78,3 +78,35 @@ none-marked (fuse a b) m e = let h = or-none _ _ e in two (none-marked a (m .0) 
 none-marked (alt a b) m e = let h = or-none _ _ e in two (none-marked a (m .0) (h .0)) (none-marked b (m .1) (h .1))
 none-marked (star a) m e = none-marked a m e
 none-marked (plus a) m e = none-marked a m e
+
+-- Before the first sample nothing is kept.
+abbrev pub nothing : Kept
+nothing = record { held = λ n. false; live = λ n f. false; sets = λ n s. false }
+
+module _ (row : ℕ → Row) (t : Table row) (node : ℕ → Node) (shape : (n : ℕ) → Shape row (row n) (node n)) where
+  unlit : (n a : ℕ) (e : row n ≡ r-left a) → Feed.any (sequence-of row a) (left-marks row t (λ j f. false) n a e) ≡ false
+  unlit n a e = dark (Feed.any (sequence-of row a) (left-marks row t (λ j f. false) n a e))
+      (λ h. sits-lit row (λ j f. false) (marks-sit row t (λ j f. false) n false a (left-has row n a e)) h)
+    where
+      dark : (b : Bool) → (T b → Lit row (λ j f. false)) → b ≡ false
+      dark true g = absurd (subst T (sym (g tt .2)) tt)
+      dark false g = refl
+
+  no-mark : {R : Row} {nd : Node} (a : ℕ) → R ≡ r-left a → Shape row R nd → noMark machine (use-of nd) ≡ mask (sequence-of row a) (empty (sequence-of row a))
+  no-mark a e of-weak = absurd (clash e)
+    where
+      clash : {b : ℕ} → r-weak b ≡ r-left a → ⊥
+      clash e = let z : _≡_ {A = ℕ} 0 1 = cc in omega arith
+  no-mark a e (of-never {a = b}) = let q : b ≡ a = cc in ap (λ (v : ℕ). mask (sequence-of row v) (empty (sequence-of row v))) q
+  no-mark a e (of-suffix {a = b}) = let q : b ≡ a = cc in ap (λ (v : ℕ). mask (sequence-of row v) (empty (sequence-of row v))) q
+  no-mark a e (of-suffix-next {a = b}) = let q : b ≡ a = cc in ap (λ (v : ℕ). mask (sequence-of row v) (empty (sequence-of row v))) q
+  no-mark a e (of-other w l u) = absurd (l a e)
+
+  pub nothing-represents : Represents row t node nothing (opened machine node)
+  nothing-represents = record {
+    held-is = λ n. refl;
+    mark-is = λ n a e. no-mark a e (shape n) ∙ ap (mask (sequence-of row a)) (sym (none-marked (sequence-of row a) _ (unlit n a e)));
+    sets-are = λ n a e s. refl;
+    sets-small = λ n a e s h. absurd (subst T (sym h) tt);
+    never-runs = λ n a e i h. absurd (subst T (unlit n a e) h);
+  }
