@@ -24,3 +24,4 @@ pub mod Hands
 pub mod Results
 pub mod State
 pub mod StateStep
+pub mod StateVerdict

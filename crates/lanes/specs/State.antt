@@ -1,27 +1,23 @@
 -- What the engine keeps against what the model keeps: after each sample the one represents the other. Nothing here has to be believed.
-use Prim.Native.Nat.{ℕ, suc, _≤_, _<_, _^_, _%_}
-use native.Mathlib.Nat.{mod-eq-of-lt}
+use Prim.Native.Nat.{ℕ, _<_, _^_}
 use native.Mathlib.Omega.{arith}
 use mathlib.Core.Path.{_≡_, refl, sym, _∙_, ap, ap₂, subst}
-use mathlib.Core.Bool.{Bool, true, false, not, _&&_, _||_, or-false}
-use mathlib.Core.Logic.{_⊎_, inl, inr, ⊎-elim}
-use lib.Dec.{T, eqb, eqb→eq}
+use mathlib.Core.Bool.{Bool, true, false, _||_}
+use lib.Dec.{T}
 use Rattle.psl.specs.Booleans.{sample}
 use Rattle.psl.specs.Sequences.{Sequence, cell, then, fuse, alt, star, plus}
-use Rattle.psl.specs.Proof.Marks.Automaton.{Marks, empty, join, gate, first, step}
+use Rattle.psl.specs.Proof.Marks.Automaton.{Marks, empty, join, first}
 use Rattle.psl.specs.Proof.Marks.Feed as Feed
-use Rattle.psl.specs.Proof.Marks.Masks.{cells, mask, unmask, mask-lt, mask-empty}
-use Rattle.psl.specs.Proof.Marks.Linear.{step-empty, join-empty-r, two}
-use Rattle.psl.specs.Proof.Marks.Words.{or-e}
-use Rattle.psl.specs.Proof.Decide.Tells.{Tells, does, doesnt, any, tells-any, tells-and, tells-not-value, tells-value, tells-eq, tells-true, tells-no, tells-or}
+use Rattle.psl.specs.Proof.Marks.Masks.{cells, mask, unmask}
+use Rattle.psl.specs.Proof.Marks.Linear.{two}
+use Rattle.psl.specs.Proof.Decide.Tells.{any}
 use Rattle.psl.specs.Proof.Model.Nodes.{Node, n-weak, n-never, n-suffix, n-suffix-next}
-use Rattle.psl.specs.Proof.Model.Auto.{Sets, Good, feed}
-use Rattle.psl.specs.Proof.Model.Machine.{machine, good, back, any-empty}
-use Rattle.psl.specs.Proof.Model.Monitor.{use-of, none, merged, ever, apart, Use, State, endsNow, markAfter, setsAfter, noMark, opened}
+use Rattle.psl.specs.Proof.Model.Auto.{feed}
+use Rattle.psl.specs.Proof.Model.Machine.{machine, back}
+use Rattle.psl.specs.Proof.Model.Monitor.{use-of, none, merged, ever, apart, Use, State, noMark, opened}
 use Rattle.lanes.specs.OneLane.{fed}
-use Rattle.lanes.specs.CellSets.{mask-unmask}
-use Rattle.lanes.specs.Rows.{Row, r-weak, r-left, Has, Lit, Sits, sits-lit}
-use Rattle.lanes.specs.Expected.{sequence-of, Table, weak-has, left-has, marks-of, marks-sit}
+use Rattle.lanes.specs.Rows.{Row, r-weak, r-left, Lit, sits-lit}
+use Rattle.lanes.specs.Expected.{sequence-of, Table, left-has, marks-of, marks-sit}
 
 -- A bit of each row that is owed or running; of each cell that a left side or a `never` expects, by row and field; the pending sets of each weak sequence.
 pub record Kept : Type 0 where
@@ -36,6 +32,9 @@ pub data Shape (row : ℕ → Row) : Row → Node → Type 0 where
   of-suffix : {a c : ℕ} → Shape row (r-left a) (n-suffix (sequence-of row a) c)
   of-suffix-next : {a c : ℕ} → Shape row (r-left a) (n-suffix-next (sequence-of row a) c)
   of-other : {R : Row} {nd : Node} → ((a : ℕ) → R ≡ r-weak a → ⊥) → ((a : ℕ) → R ≡ r-left a → ⊥) → use-of nd ≡ none → Shape row R nd
+
+pub weak-not-left : {a b : ℕ} → r-weak a ≡ r-left b → ⊥
+weak-not-left e = let z : _≡_ {A = ℕ} 0 1 = cc in omega arith
 
 -- A fresh attempt at a node's sequence: a `never` that runs starts one at every sample.
 abbrev pub entered : Use → Bool → Bool → Bool
@@ -93,10 +92,7 @@ module _ (row : ℕ → Row) (t : Table row) (node : ℕ → Node) (shape : (n :
       dark false g = refl
 
   no-mark : {R : Row} {nd : Node} (a : ℕ) → R ≡ r-left a → Shape row R nd → noMark machine (use-of nd) ≡ mask (sequence-of row a) (empty (sequence-of row a))
-  no-mark a e of-weak = absurd (clash e)
-    where
-      clash : {b : ℕ} → r-weak b ≡ r-left a → ⊥
-      clash e = let z : _≡_ {A = ℕ} 0 1 = cc in omega arith
+  no-mark a e of-weak = absurd (weak-not-left e)
   no-mark a e (of-never {a = b}) = let q : b ≡ a = cc in ap (λ (v : ℕ). mask (sequence-of row v) (empty (sequence-of row v))) q
   no-mark a e (of-suffix {a = b}) = let q : b ≡ a = cc in ap (λ (v : ℕ). mask (sequence-of row v) (empty (sequence-of row v))) q
   no-mark a e (of-suffix-next {a = b}) = let q : b ≡ a = cc in ap (λ (v : ℕ). mask (sequence-of row v) (empty (sequence-of row v))) q

@@ -1,6 +1,5 @@
 -- One sample: if the passes leave what they should, the new state represents the model's next one. Nothing here has to be believed.
-use Prim.Native.Nat.{ℕ, suc, _≤_, _<_, _^_}
-use native.Mathlib.Omega.{arith}
+use Prim.Native.Nat.{ℕ, _<_, _^_}
 use mathlib.Core.Path.{_≡_, refl, sym, _∙_, ap, ap₂, subst, fun-ext}
 use mathlib.Core.Bool.{Bool, true, false, not, _&&_, _||_}
 use lib.Dec.{T, eqb}
@@ -8,23 +7,23 @@ use Rattle.psl.specs.Booleans.{sample}
 use Rattle.psl.specs.Sequences.{Sequence}
 use Rattle.psl.specs.Proof.Marks.Automaton.{Marks, empty, step}
 use Rattle.psl.specs.Proof.Marks.Feed as Feed
-use Rattle.psl.specs.Proof.Marks.Masks.{cells, mask, unmask}
+use Rattle.psl.specs.Proof.Marks.Masks.{cells, mask}
 use Rattle.psl.specs.Proof.Marks.Linear.{step-empty, join-empty-r}
-use Rattle.psl.specs.Proof.Decide.Tells.{Tells, any, tells-any, tells-and, tells-or, tells-value, tells-eq, tells-true, tells-no, tells-T}
+use Rattle.psl.specs.Proof.Decide.Tells.{any, tells-any, tells-and, tells-value, tells-eq, tells-true, tells-no, tells-T}
 use Rattle.psl.specs.Proof.Model.Nodes.{Node, n-bool, n-weak, n-never, n-both, n-next, n-always, n-if-else, n-implies, n-or, n-until, n-suffix, n-suffix-next}
 use Rattle.psl.specs.Proof.Model.Step.{keeps}
-use Rattle.psl.specs.Proof.Model.Auto.{Sets, Good, feed}
+use Rattle.psl.specs.Proof.Model.Auto.{feed}
 use Rattle.psl.specs.Proof.Model.Machine.{machine, good, any-empty}
 use Rattle.psl.specs.Proof.Model.Monitor as M
 use Rattle.lanes.specs.OneLane.{fed}
-use Rattle.lanes.specs.Families.{Lanes, moved-to, sets-same}
-use Rattle.lanes.specs.Rows.{Row, r-weak, r-left}
-use Rattle.lanes.specs.Expected.{sequence-of, Table, left-has}
+use Rattle.lanes.specs.Families.{moved-to, sets-same}
+use Rattle.lanes.specs.Rows.{Row, r-weak, r-left, Lit}
+use Rattle.lanes.specs.Expected.{sequence-of, Table}
 use Rattle.lanes.specs.UpPass.{Part, operand, RowPart}
 use Rattle.lanes.specs.Uses.{ended-lanes}
 use Rattle.lanes.specs.DownPass.{Work, weak-use, left-use}
-use Rattle.lanes.specs.Results.{marks-next, Done, left-hit, left-after, weak-lanes}
-use Rattle.lanes.specs.State.{Kept, Shape, of-weak, of-never, of-suffix, of-suffix-next, of-other, entered, IsNever, left-marks, Represents, fed-same, none-marked}
+use Rattle.lanes.specs.Results.{marks-next, Done, left-hit, left-after, after-waits, weak-lanes}
+use Rattle.lanes.specs.State.{Kept, weak-not-left, Shape, of-weak, of-never, of-suffix, of-suffix-next, of-other, entered, IsNever, left-marks, Represents, fed-same, none-marked}
 
 -- What a merged set says of a letter, by its marks.
 module _ (r : Sequence) (m : Marks r) (mark x : ℕ) (e : mark ≡ mask r m) (now : Bool) where
@@ -34,13 +33,10 @@ module _ (r : Sequence) (m : Marks r) (mark x : ℕ) (e : mark ≡ mask r m) (no
   goes-fed : machine .go r (feed machine r now mark) x ≡ mask r (step r (sample x) (fed r m now) .1)
   goes-fed = rw e (ap (λ (z : Marks r). mask r (step r (sample x) z .1)) (fed-same r m now))
 
-not-both : {a b : ℕ} → r-weak a ≡ r-left b → ⊥
-not-both e = let z : _≡_ {A = ℕ} 0 1 = cc in omega arith
-
 module _ (row : ℕ → Row) (t : Table row) (x : ℕ) where
   hit-by : {R : Row} {nd : Node} (a : ℕ) → Shape row R nd → R ≡ r-left a → (m : Marks (sequence-of row a)) (mark : ℕ) → mark ≡ mask (sequence-of row a) m → (now held : Bool)
       → M.endsNow machine (M.use-of nd) now held mark x ≡ step (sequence-of row a) (sample x) (fed (sequence-of row a) m (entered (M.use-of nd) now held)) .0
-  hit-by a of-weak e m mark q now held = absurd (not-both e)
+  hit-by a of-weak e m mark q now held = absurd (weak-not-left e)
   hit-by a (of-never {a = b}) e m mark q now held = let z : b ≡ a = cc in rw z (ends-fed (sequence-of row a) m mark x q (held || now))
   hit-by a (of-suffix {a = b}) e m mark q now held = let z : b ≡ a = cc in rw z (ends-fed (sequence-of row a) m mark x q now)
   hit-by a (of-suffix-next {a = b}) e m mark q now held = let z : b ≡ a = cc in rw z (ends-fed (sequence-of row a) m mark x q now)
@@ -48,7 +44,7 @@ module _ (row : ℕ → Row) (t : Table row) (x : ℕ) where
 
   mark-by : {R : Row} {nd : Node} (a : ℕ) → Shape row R nd → R ≡ r-left a → (m : Marks (sequence-of row a)) (mark : ℕ) → mark ≡ mask (sequence-of row a) m → (now held : Bool)
       → M.markAfter machine (M.use-of nd) now held mark x ≡ mask (sequence-of row a) (step (sequence-of row a) (sample x) (fed (sequence-of row a) m (entered (M.use-of nd) now held)) .1)
-  mark-by a of-weak e m mark q now held = absurd (not-both e)
+  mark-by a of-weak e m mark q now held = absurd (weak-not-left e)
   mark-by a (of-never {a = b}) e m mark q now held = let z : b ≡ a = cc in rw z (goes-fed (sequence-of row a) m mark x q (held || now))
   mark-by a (of-suffix {a = b}) e m mark q now held = let z : b ≡ a = cc in rw z (goes-fed (sequence-of row a) m mark x q now)
   mark-by a (of-suffix-next {a = b}) e m mark q now held = let z : b ≡ a = cc in rw z (goes-fed (sequence-of row a) m mark x q now)
@@ -58,9 +54,9 @@ module _ (row : ℕ → Row) (t : Table row) (x : ℕ) where
   bits-by : {R : Row} {nd : Node} (a : ℕ) → Shape row R nd → R ≡ r-weak a → (now held : Bool) (old : ℕ → Bool) (s : ℕ)
       → (M.bitsAfter machine (M.use-of nd) now old x s ≡ M.setsAfter machine (sequence-of row a) now old x s) × (entered (M.use-of nd) now held ≡ now)
   bits-by a (of-weak {a = b}) e now held old s = let z : b ≡ a = cc in (rw z refl, refl)
-  bits-by a of-never e now held old s = absurd (not-both (sym e))
-  bits-by a of-suffix e now held old s = absurd (not-both (sym e))
-  bits-by a of-suffix-next e now held old s = absurd (not-both (sym e))
+  bits-by a of-never e now held old s = absurd (weak-not-left (sym e))
+  bits-by a of-suffix e now held old s = absurd (weak-not-left (sym e))
+  bits-by a of-suffix-next e now held old s = absurd (weak-not-left (sym e))
   bits-by a (of-other w l u) e now held old s = absurd (w a e)
 
 never-keeps : (nd : Node) → IsNever (M.use-of nd) → (now held hit : Bool) (x : ℕ) → keeps nd now held hit x ≡ entered (M.use-of nd) now held
@@ -158,3 +154,9 @@ module _ (row : ℕ → Row) (t : Table row) (node : ℕ → Node) (shape : (n :
         sets-small = λ n a e s q. left-small (sequence-of row a) (enters n) (k .sets n) x s (sym (sets-new n a e s ∙ model-sets n a e s) ∙ q);
         never-runs = runs-on;
       }
+
+      -- a cell that is expected is one of a left side
+      pub lit-left : Lit row (k′ .live) → (n : ℕ) × (a : ℕ) × (e : row n ≡ r-left a) × T (Feed.any (sequence-of row a) (left-marks row t (k′ .live) n a e))
+      lit-left lit =
+          let w = after-waits row t (sample x) enters (k .live) part all d h (rw live-new at lit) in
+          (w .node, w .arg, w .left, subst (λ (m : Marks (sequence-of row (w .arg))). T (Feed.any (sequence-of row (w .arg)) m)) (sym (marks-after (w .node) (w .arg) (w .left))) (w .some))
