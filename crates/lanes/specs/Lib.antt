@@ -22,6 +22,7 @@ pub mod DownPass
 pub mod DownLoop
 pub mod Hands
 pub mod Results
+pub mod Ideal
 pub mod State
 pub mod StateStep
 pub mod StateVerdict

@@ -139,7 +139,7 @@ module _ (c : Letter) {x : Sequence} {m : Marks x} {p : Part} (s : PartOk x c m 
 
 -- The upward pass: what it leaves at each row, from the operands; at a Boolean the part is the cell's.
 module _ (row : ℕ → Row) (live : ℕ → Bool → Bool) (c : Letter) (part : ℕ → Part) where
-  abbrev operand-by : Row → ℕ → Bool → ℕ → Part
+  abbrev pub operand-by : Row → ℕ → Bool → ℕ → Part
   operand-by (r-bool b) n f v = cell-part (satisfies c b) (live n f)
   operand-by (r-then a b) n f v = part v
   operand-by (r-fuse a b) n f v = part v
