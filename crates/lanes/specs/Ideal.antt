@@ -2,16 +2,15 @@
 -- agree with them. Nothing here has to be believed.
 use Prim.Native.Nat.{ℕ, zero, suc, _-_, _≤_, _<_}
 use native.Mathlib.Omega.{arith}
-use native.Mathlib.Decide.{decLt}
-use mathlib.Core.Path.{_≡_, refl, sym, _∙_, ap, ap₂, subst}
+use mathlib.Core.Path.{_≡_, refl, sym, ap, ap₂}
 use mathlib.Core.Bool.{Bool, true, false, _&&_, _||_}
 use mathlib.Core.Logic.{_⊎_, inl, inr, ⊎-elim}
-use lib.Dec.{T, eqb}
-use Rattle.psl.specs.Booleans.{Boolean, Letter, satisfies}
+use lib.Dec.{eqb}
+use Rattle.psl.specs.Booleans.{Boolean, Letter}
 use Rattle.psl.specs.Proof.Decide.Tells.{Tells, does, doesnt, tells-eq, tells-and, tells-or, tells-value, tells-true, true-tells, tells-no}
-use Rattle.lanes.specs.Rows.{Row, r-bool, r-then, r-fuse, r-alt, r-star, r-plus, r-weak, r-left, r-rest, Has, IsSequence, Sound, Two, One, two-then, two-fuse, two-alt, one-star, one-plus, one-weak, one-left}
+use Rattle.lanes.specs.Rows.{Row, r-bool, r-then, r-fuse, r-alt, r-star, r-plus, r-weak, r-left, r-rest, Has, Sound, Two, One, two-then, two-fuse, two-alt, one-star, one-plus, one-weak, one-left}
 use Rattle.lanes.specs.Expected.{Table}
-use Rattle.lanes.specs.UpPass.{Part, choose, cell-part, then-part, fuse-part, alt-part, loop-part, operand-by, operand, RowPart}
+use Rattle.lanes.specs.UpPass.{Part, choose, then-part, fuse-part, alt-part, loop-part, operand-by, operand, RowPart}
 use Rattle.lanes.specs.Uses.{Use}
 use Rattle.lanes.specs.DownPass.{Work, LandsBy, give}
 use Rattle.lanes.specs.Hands.{Hands, visits-two, visits-one, visits-none}

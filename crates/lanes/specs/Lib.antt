@@ -26,3 +26,4 @@ pub mod Ideal
 pub mod State
 pub mod StateStep
 pub mod StateVerdict
+pub mod Cycle

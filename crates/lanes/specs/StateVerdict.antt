@@ -23,6 +23,12 @@ use Rattle.lanes.specs.Rows.{Row, r-weak, r-left, r-rest, Lit, sits-lit}
 use Rattle.lanes.specs.Expected.{sequence-of, Table, left-has, marks-sit}
 use Rattle.lanes.specs.State.{Kept, weak-not-left, Shape, of-weak, of-never, of-suffix, of-suffix-next, of-other, IsNever, left-marks, Represents, none-marked}
 
+-- Nothing is kept for the rows up to the root.
+pub record Quiet (row : ℕ → Row) (root : ℕ) (k : Kept) : Type 0 where
+  pub none-held : (n : ℕ) → n ≤ root → k .held n ≡ false
+  pub none-live : ¬ Lit row (k .live)
+  pub none-pending : (n a : ℕ) → row n ≡ r-weak a → (s : ℕ) → k .sets n s ≡ false
+
 -- A pending set with no cell left is the empty one.
 pub dead-is : (r : Sequence) (f : ℕ → Bool) → ((s : ℕ) → f s ≡ true → s < 2 ^ cells r) → M.deadNow machine (M.apart r) f ≡ f 0
 dead-is r f small = tells-same (tells-any _ _ (λ s. tells-and (tells-value (f s)) (tells-not-value (Feed.any r (unmask r s)))) (2 ^ cells r)) (tells-value (f 0))
@@ -37,14 +43,9 @@ dead-is r f small = tells-same (tells-any _ _ (λ s. tells-and (tells-value (f s
 
 module _ (row : ℕ → Row) (t : Table row) (node : ℕ → Node) (shape : (n : ℕ) → Shape row (row n) (node n)) (root : ℕ) (top : (n : ℕ) → root < n → row n ≡ r-rest)
     (k : Kept) (st : M.State) (rep : Represents row t node k st) where
-  -- what the model makes of the new state, by row
+  -- what the model makes of the state, by row
   abbrev ajar : ℕ → Bool
   ajar n = M.ajarNow machine (M.use-of (node n)) (st .mark n) (st .bits n)
-
-  pub record Quiet : Type 0 where
-    pub none-held : (n : ℕ) → n ≤ root → k .held n ≡ false
-    pub none-live : ¬ Lit row (k .live)
-    pub none-pending : (n a : ℕ) → row n ≡ r-weak a → (s : ℕ) → k .sets n s ≡ false
 
   low : (n a : ℕ) → row n ≡ r-left a → n ≤ root
   low n a e = elim (decLe n root) [ yes l ↦ l | no l ↦ (let q = top n (omega arith) in let z : _≡_ {A = ℕ} 0 1 = cc in absurd (omega arith)) ]
@@ -91,7 +92,7 @@ module _ (row : ℕ → Row) (t : Table row) (node : ℕ → Node) (shape : (n :
   abbrev Shows : ℕ → Type 0
   Shows n = (k .held n ≡ true) ⊎ (ajar n ≡ true)
 
-  quiet-hides : Quiet → (n : ℕ) → n < suc root → ¬ Shows n
+  quiet-hides : Quiet row root k → (n : ℕ) → n < suc root → ¬ Shows n
   quiet-hides q n l (inl h) = subst T (sym h ∙ q .none-held n (omega arith)) tt
   quiet-hides q n l (inr h) = ⊎-elim
       (λ w. (let s = any-of _ (st .bits n) (w .2) in subst T (sym (sym (rep .sets-are n (w .0) (w .1) (s .0)) ∙ s .1) ∙ q .none-pending n (w .0) (w .1) (s .0)) tt))
@@ -113,7 +114,7 @@ module _ (row : ℕ → Row) (t : Table row) (node : ℕ → Node) (shape : (n :
     pending-shows : (n a : ℕ) → row n ≡ r-weak a → (s : ℕ) → k .sets n s ≡ true → Shows n
     pending-shows n a e s h = inr (weak-shows a (shape n) e (st .mark n) (st .bits n) .0 ∙ of-any _ (st .bits n) s (rep .sets-small n a e s h) (rep .sets-are n a e s ∙ h))
 
-    hidden-quiet : ((n : ℕ) → n < suc root → ¬ Shows n) → Quiet
+    hidden-quiet : ((n : ℕ) → n < suc root → ¬ Shows n) → Quiet row root k
     hidden-quiet g = record {
       none-held = λ n l. tells-no (tells-value (k .held n)) (λ h. g n (omega arith) (inl h));
       none-live = λ lit. (let w = lit-shows lit in g (w .0) (w .1) (w .2));
@@ -121,7 +122,7 @@ module _ (row : ℕ → Row) (t : Table row) (node : ℕ → Node) (shape : (n :
     }
 
     -- SETTLED: nothing is kept
-    pub settled-is : {quiet : Bool} → Tells Quiet quiet → quiet ≡ not (any (suc root) (λ n. st .held n || ajar n))
+    pub settled-is : {quiet : Bool} → Tells (Quiet row root k) quiet → quiet ≡ not (any (suc root) (λ n. st .held n || ajar n))
     settled-is tq = tells-same tq (tells-not (tells-any _ _ (λ n. tells-or (tells-value (st .held n)) (tells-value (ajar n))) (suc root)))
         (λ q s. quiet-hides q (s .0) (s .1) (⊎-elim (λ h. inl (sym (rep .held-is (s .0)) ∙ h)) (λ h. inr h) (s .2)))
         (λ g. hidden-quiet (λ n l z. g (n, l, ⊎-elim (λ h. inl (rep .held-is n ∙ h)) (λ h. inr h) z)))
