@@ -1,0 +1,41 @@
+-- Any two answers that a contract of this crate allows are equal. A word is below 2 ^ 64. (`bit` is given by an equation.)
+use Prim.Native.Nat.{ℕ, _^_, _<_}
+use native.Mathlib.Omega.{arith}
+use native.Mathlib.Decide.{decLt}
+use mathlib.Core.Path.{_≡_, sym, _∙_, subst}
+use mathlib.Core.Bool.{Bool, true, false}
+use lib.Dec.{T}
+use Rattle.words.specs.Bits.{same-bits}
+use Rattle.words.specs.Sets.{WithBit, WithoutBit, Lowest, Highest, Without}
+
+clash : {b : Bool} → b ≡ true → b ≡ false → ⊥
+clash p q = subst T (sym p ∙ q) tt
+
+pub with-bit-one : (word index : ℕ) (on : Bool) (r s : ℕ) → r < 2 ^ 64 → s < 2 ^ 64 → WithBit word index on r → WithBit word index on s → r ≡ s
+with-bit-one word index on r s p q a b = same-bits 64 r s p q (λ k l. a .each k ∙ sym (b .each k))
+
+pub without-bit-one : (word index r s : ℕ) → r < 2 ^ 64 → s < 2 ^ 64 → WithoutBit word index r → WithoutBit word index s → r ≡ s
+without-bit-one word index r s p q a b = same-bits 64 r s p q (λ k l. a .each k ∙ sym (b .each k))
+
+-- of two that differ, one is set and the other says that it is not
+pub lowest-one : (word n m : ℕ) → Lowest word n → Lowest word m → n ≡ m
+lowest-one word n m a b = elim (decLt 0 word) [
+  | yes some ↦ elim (decLt n m) [
+    | yes l ↦ absurd (clash (a .set some) (b .below n l))
+    | no l ↦ elim (decLt m n) [ yes g ↦ absurd (clash (b .set some) (a .below m g)) | no g ↦ omega arith ]
+  ]
+  | no none ↦ a .none (omega arith) ∙ sym (b .none (omega arith))
+]
+
+pub highest-one : (word n m : ℕ) → Highest word n → Highest word m → n ≡ m
+highest-one word n m a b = elim (decLt 0 word) [
+  | yes some ↦ elim (decLt n m) [
+    | yes l ↦ absurd (clash (b .set some) (a .above m l))
+    | no l ↦ elim (decLt m n) [ yes g ↦ absurd (clash (a .set some) (b .above n g)) | no g ↦ omega arith ]
+  ]
+  | no none ↦ a .none (omega arith) ∙ sym (b .none (omega arith))
+]
+
+-- n is the word's lowest (its highest) number, or 64 in its stead: every word has one, by `lowest-is` and `highest-is`
+pub without-one : (End : ℕ → ℕ → Type 0) (word n r s : ℕ) → End word n → r < 2 ^ 64 → s < 2 ^ 64 → Without End word r → Without End word s → r ≡ s
+without-one End word n r s end p q a b = same-bits 64 r s p q (λ k l. a .each n end k ∙ sym (b .each n end k))
