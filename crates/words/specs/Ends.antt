@@ -103,6 +103,10 @@ lowest-is word fits = record {
   ];
 }
 
+-- a word that is not 0 has a bit
+pub some-bit : (word : ℕ) → 0 < word → word < 2 ^ 64 → (k : ℕ) × (k < 64) × (bit word k ≡ true)
+some-bit word some fits = let low = lowest-is word fits in (trailingZeros 64 word, low .small some, low .set some)
+
 -- ---- the highest bit of a number that is not 0
 
 pub highest-is : (word : ℕ) → 0 < word → word < 2 ^ 64 → Highest word (63 - leadingZeros 64 word)

@@ -1,8 +1,8 @@
--- What the functions of this crate answer (Sets, with Unique: one answer each); then laws for whoever uses words: of each operation (Bits),
--- of fields such as bytes (Fields), of the lowest and the highest bit (Ends), and of a walk through a set (Walk).
+-- What the functions of this crate answer (Sets); laws of each operation (Bits), of fields such as bytes (Fields), of the lowest and the highest bit
+-- (Ends); that each answer is one (Unique); and laws of a walk through a set (Walk).
 pub mod Sets
 pub mod Bits
 pub mod Fields
-pub mod Unique
 pub mod Ends
+pub mod Unique
 pub mod Walk

@@ -6,6 +6,7 @@ use mathlib.Core.Path.{_≡_, sym, _∙_, subst}
 use mathlib.Core.Bool.{Bool, true, false}
 use lib.Dec.{T}
 use Rattle.words.specs.Bits.{same-bits}
+use Rattle.words.specs.Ends.{lowest-is, highest-is, highest-none}
 use Rattle.words.specs.Sets.{WithBit, WithoutBit, Lowest, Highest, Without}
 
 clash : {b : Bool} → b ≡ true → b ≡ false → ⊥
@@ -36,6 +37,14 @@ highest-one word n m a b = elim (decLt 0 word) [
   | no none ↦ a .none (omega arith) ∙ sym (b .none (omega arith))
 ]
 
--- n is the word's lowest (its highest) number, or 64 in its stead: every word has one, by `lowest-is` and `highest-is`
-pub without-one : (End : ℕ → ℕ → Type 0) (word n r s : ℕ) → End word n → r < 2 ^ 64 → s < 2 ^ 64 → Without End word r → Without End word s → r ≡ s
+without-one : (End : ℕ → ℕ → Type 0) (word n r s : ℕ) → End word n → r < 2 ^ 64 → s < 2 ^ 64 → Without End word r → Without End word s → r ≡ s
 without-one End word n r s end p q a b = same-bits 64 r s p q (λ k l. a .each n end k ∙ sym (b .each n end k))
+
+pub without-lowest-one : (word r s : ℕ) → word < 2 ^ 64 → r < 2 ^ 64 → s < 2 ^ 64 → Without Lowest word r → Without Lowest word s → r ≡ s
+without-lowest-one word r s fits = without-one Lowest word _ r s (lowest-is word fits)
+
+pub without-highest-one : (word r s : ℕ) → word < 2 ^ 64 → r < 2 ^ 64 → s < 2 ^ 64 → Without Highest word r → Without Highest word s → r ≡ s
+without-highest-one word r s fits = elim (decLt 0 word) [
+  | yes some ↦ without-one Highest word _ r s (highest-is word some fits)
+  | no none ↦ without-one Highest word 64 r s (let e : word ≡ 0 = omega arith in rw e highest-none)
+]
