@@ -1,21 +1,22 @@
 -- What the code computes is what the contracts say: each function's answer as a number.
-use Prim.Native.Nat.{ℕ, _+_, _-_, _*_, _%_, _^_, _<_}
-use native.Mathlib.Nat.{zero-mul, one-mul, mod-eq-of-lt}
+use Prim.Native.Nat.{ℕ, _+_, _-_, _*_, _/_, _%_, _^_, _≤_, _<_}
+use native.Mathlib.Nat.{zero-mul, one-mul, mod-eq-of-lt, div-eq-of-lt, le-div-iff-mul-le}
 use native.Mathlib.Omega.{arith}
 use native.Mathlib.Decide.{decLt}
-use mathlib.Core.Path.{_≡_, refl, sym, _∙_, ap}
+use mathlib.Core.Path.{_≡_, refl, sym, _∙_, ap, subst}
 use mathlib.Core.Bool.{Bool, true, false, not, _&&_, _||_}
 use lib.Bits.{bitOr, bitAnd, or-zero-r, and-le-r}
 use lib.Count.{trailingZeros}
-use lib.Dec.{eqb, ltb}
-use lib.Pow.{shl-exact, pow-lt}
-use borrow.Author.Tests.{lt-ltb, eq-eqb}
+use lib.Dec.{eqb, ltb, leb}
+use lib.Pow.{shl-exact, pow-lt, pow-pos}
+use borrow.Author.Tests.{lt-ltb, lt-leb, le-leb, eq-eqb, ne-eqb}
 use mir.Val.{boolByte}
 use Rattle.psl.specs.Booleans.{bit}
-use Rattle.words.specs.Sets.{WithBit, WithoutBit, Lowest, Highest, Without}
+use Rattle.psl.specs.Proof.Decide.Tells.{Tells, doesnt}
+use Rattle.words.specs.Sets.{WithBit, WithoutBit, HasFrom, Lowest, Highest, Without}
 use Rattle.words.specs.Bits.{bit-none, bit-on, bit-one, bit-and, bit-not, set-below, fewer-bits}
 use Rattle.words.specs.Unique.{lowest-one, highest-one}
-use Rattle.words.specs.Ends.{lowest-is, trailing-ends, ending-less}
+use Rattle.words.specs.Ends.{has-from, lowest-is, trailing-ends, ending-less}
 
 -- 1 << index
 one-shifted : (index : ℕ) → 1 * 2 ^ (index % 64) % 2 ^ 64 ≡ 2 ^ (index % 64)
@@ -76,3 +77,19 @@ without-highest-is word n r fits small top gone = record {
       | yes some ↦ rw (mod-eq-of-lt (top .small some))
       | no z ↦ (let e : word ≡ 0 = omega arith in rw (e, bit-none k))
     ]
+
+-- word >> index is not 0
+pub has-from-is : (word index : ℕ) → Tells (HasFrom word index) (not (eqb (word / 2 ^ index) 0))
+has-from-is word index = rw shifted (has-from word index)
+  where
+    shifted : not (eqb (word / 2 ^ index) 0) ≡ leb (2 ^ index) word
+    shifted = elim (decLt word (2 ^ index)) [
+      | yes l ↦ rw (lt-leb (2 ^ index) word l, div-eq-of-lt l)
+      | no l ↦ (let g : 2 ^ index ≤ word = omega arith in
+          let some : 0 < word / 2 ^ index = le-div-iff-mul-le (pow-pos index) .1 (subst (λ (y : ℕ). y ≤ word) (sym (one-mul (2 ^ index))) g) in
+          let n : word / 2 ^ index ≡ 0 → ⊥ = λ e. omega arith in
+          rw (le-leb (2 ^ index) word g, ne-eqb (word / 2 ^ index) 0 n))
+    ]
+
+pub has-from-none : (word index : ℕ) → word < 2 ^ 64 → 64 ≤ index → Tells (HasFrom word index) false
+has-from-none word index fits far = doesnt (λ h. let l = set-below 64 word (h .0) fits (h .2) in omega (arith, h .1))

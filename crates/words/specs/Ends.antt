@@ -1,18 +1,21 @@
 -- The lowest and the highest bit of a number by its counts of zeros, and a number without its lowest bit as x & (x - 1).
 use Prim.Native.Nat.{ℕ, zero, suc, _+_, _-_, _*_, _/_, _%_, _^_, _≤_, _<_, min}
-use native.Mathlib.Nat.{pow-suc, pow-succ', mul-assoc, one-mul, add-mul, add-zero}
+use native.Mathlib.Nat.{pow-suc, pow-succ', mul-assoc, one-mul, add-mul, add-zero, le-div-iff-mul-le}
 use native.Mathlib.Omega.{arith}
 use native.Mathlib.Decide.{decLt}
-use mathlib.Core.Path.{_≡_, refl, sym, _∙_, ap, ap₂}
+use mathlib.Core.Path.{_≡_, refl, sym, _∙_, ap, ap₂, subst}
 use mathlib.Core.Bool.{Bool, true, false, not, _&&_, _||_}
 use lib.Bits.{bitAnd, and-step, and-block, and-self}
 use lib.Count.{trailingZeros, under, leadingZeros, leading-top, trailing-of-zero}
-use lib.Dec.{eqb}
+use lib.Dec.{eqb, leb}
+use lib.Ieee.{size}
+use lib.Ieee.Digits.{size-lt}
 use lib.Pow.{pow-pos, pow-lt, ones-lt, high}
-use borrow.Author.Tests.{eq-eqb, ne-eqb, eqb-true}
+use borrow.Author.Tests.{eq-eqb, ne-eqb, eqb-true, le-leb, lt-leb}
 use Rattle.psl.specs.Booleans.{bit}
-use Rattle.words.specs.Sets.{Lowest, Highest}
-use Rattle.words.specs.Bits.{bit-none, bit-high, set-below, bit-one, bit-shl-low, bit-beside}
+use Rattle.psl.specs.Proof.Decide.Tells.{Tells, does, doesnt}
+use Rattle.words.specs.Sets.{HasFrom, Lowest, Highest}
+use Rattle.words.specs.Bits.{bit-none, bit-high, set-below, bit-one, bit-shl-low, bit-shr, bit-beside}
 
 -- x is 2 ^ low with an even multiple of it above
 pub record Ending (x low : ℕ) : Type 0 where
@@ -103,9 +106,20 @@ lowest-is word fits = record {
   ];
 }
 
--- a word that is not 0 has a bit
-pub some-bit : (word : ℕ) → 0 < word → word < 2 ^ 64 → (k : ℕ) × (k < 64) × (bit word k ≡ true)
-some-bit word some fits = let low = lowest-is word fits in (trailingZeros 64 word, low .small some, low .set some)
+-- ---- some bit
+
+-- a number that is not 0 has one
+pub some-bit : (x : ℕ) → 0 < x → (k : ℕ) × (bit x k ≡ true)
+some-bit x some = (trailingZeros (size x) x, ending-set x _ (trailing-ends (size x) x some (size-lt x)))
+
+-- and has one from n on just if it is 2 ^ n or more
+pub has-from : (x n : ℕ) → Tells (HasFrom x n) (leb (2 ^ n) x)
+has-from x n = elim (decLt x (2 ^ n)) [
+  | yes l ↦ rw (lt-leb (2 ^ n) x l) (doesnt (λ h. let m = set-below n x (h .0) l (h .2) in omega (arith, h .1)))
+  | no l ↦ (let g : 2 ^ n ≤ x = omega arith in
+      let h = some-bit (x / 2 ^ n) (le-div-iff-mul-le (pow-pos n) .1 (subst (λ (y : ℕ). y ≤ x) (sym (one-mul (2 ^ n))) g)) in
+      rw (le-leb (2 ^ n) x g) (does (n + h .0, omega arith, sym (bit-shr x n (h .0)) ∙ h .1)))
+]
 
 -- ---- the highest bit of a number that is not 0
 

@@ -1,5 +1,5 @@
 -- A word of 64 bits as a set of numbers below 64: k is in it where bit k is set. What the functions of this crate answer, in these terms.
-use Prim.Native.Nat.{ℕ, _%_, _<_}
+use Prim.Native.Nat.{ℕ, _%_, _≤_, _<_}
 use mathlib.Core.Bool.{Bool, true, false, not, _&&_, _||_}
 use mathlib.Core.Path.{_≡_}
 use lib.Dec.{eqb}
@@ -12,6 +12,10 @@ pub record WithBit (word index : ℕ) (on : Bool) (r : ℕ) : Type 0 where
 -- The word without a number.
 pub record WithoutBit (word index r : ℕ) : Type 0 where
   pub each : (k : ℕ) → bit r k ≡ bit word k && not (eqb k (index % 64))
+
+-- The word has a number from n on.
+abbrev pub HasFrom : ℕ → ℕ → Type 0
+HasFrom word n = (k : ℕ) × (n ≤ k) × (bit word k ≡ true)
 
 -- The lowest number in the word; 64 where there is none.
 pub record Lowest (word n : ℕ) : Type 0 where

@@ -1,13 +1,15 @@
--- Any two answers that a contract of this crate allows are equal. A word is below 2 ^ 64. (`bit` is given by an equation.)
+-- Any two answers that a contract of this crate allows are equal. A word is below 2 ^ 64. (`bit` is given by an equation, and a Boolean that tells of a
+-- statement is one: `has-from-one`.)
 use Prim.Native.Nat.{ℕ, _^_, _<_}
 use native.Mathlib.Omega.{arith}
 use native.Mathlib.Decide.{decLt}
-use mathlib.Core.Path.{_≡_, sym, _∙_, subst}
+use mathlib.Core.Path.{_≡_, refl, sym, _∙_, subst}
 use mathlib.Core.Bool.{Bool, true, false}
 use lib.Dec.{T}
+use Rattle.psl.specs.Proof.Decide.Tells.{Tells, tells-true, tells-false}
 use Rattle.words.specs.Bits.{same-bits}
 use Rattle.words.specs.Ends.{lowest-is, highest-is, highest-none}
-use Rattle.words.specs.Sets.{WithBit, WithoutBit, Lowest, Highest, Without}
+use Rattle.words.specs.Sets.{WithBit, WithoutBit, HasFrom, Lowest, Highest, Without}
 
 clash : {b : Bool} → b ≡ true → b ≡ false → ⊥
 clash p q = subst T (sym p ∙ q) tt
@@ -17,6 +19,12 @@ with-bit-one word index on r s p q a b = same-bits 64 r s p q (λ k l. a .each k
 
 pub without-bit-one : (word index r s : ℕ) → r < 2 ^ 64 → s < 2 ^ 64 → WithoutBit word index r → WithoutBit word index s → r ≡ s
 without-bit-one word index r s p q a b = same-bits 64 r s p q (λ k l. a .each k ∙ sym (b .each k))
+
+pub has-from-one : (word index : ℕ) (r s : Bool) → Tells (HasFrom word index) r → Tells (HasFrom word index) s → r ≡ s
+has-from-one word index true true a b = refl
+has-from-one word index false false a b = refl
+has-from-one word index true false a b = absurd (tells-false b refl (tells-true a refl))
+has-from-one word index false true a b = absurd (tells-false a refl (tells-true b refl))
 
 -- of two that differ, one is set and the other says that it is not
 pub lowest-one : (word n m : ℕ) → Lowest word n → Lowest word m → n ≡ m

@@ -1,8 +1,9 @@
-// Sets of numbers below 64, each in one word: k is in the set where bit k is set. Every index counts modulo 64, so no function asks anything.
+// Sets of numbers below 64, each in one word: k is in the set where bit k is set. The index of one bit counts modulo 64, so no function asks anything.
 ghost use mathlib.Core.Path.{_≡_};
 ghost use Prim.Native.Nat.{_%_};
 ghost use Rattle.psl.specs.Booleans.{bit};
-ghost use Rattle.words.specs.Sets.{WithBit, WithoutBit, Lowest, Highest, Without};
+ghost use Rattle.psl.specs.Proof.Decide.Tells.{Tells};
+ghost use Rattle.words.specs.Sets.{WithBit, WithoutBit, HasFrom, Lowest, Highest, Without};
 
 // Whether a number is in the word.
 pub fn bit(word: u64, index: u8) -> bool
@@ -23,6 +24,17 @@ pub fn without_bit(word: u64, index: u8) -> u64
     ensures { λ r. ⌜ WithoutBit word index r ⌝ }
 {
     word & !(1u64 << (index % 64))
+}
+
+// Whether the word has a number from index on: from 64 on there is none.
+pub fn has_from(word: u64, index: u8) -> bool
+    ensures { λ r. ⌜ Tells (HasFrom word index) r ⌝ }
+{
+    if index < 64 {
+        word >> index != 0
+    } else {
+        false
+    }
 }
 
 // The lowest number in the word; 64 where there is none.
