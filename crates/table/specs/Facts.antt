@@ -1,0 +1,2 @@
+-- What an accepted table gives: theorems that later proofs cite.
+pub mod Accepted
