@@ -253,7 +253,7 @@ module _ (row : ℕ → Row) (t : Table row) (live : ℕ → Bool → Bool) (c :
   abbrev pub Visited : ℕ → Work → Work → Type 0
   Visited = Visits row live c (part-of row live c) enter
 
-  visit-right : (n : ℕ) (d : Work) → Visited n d (visit n d)
+  pub visit-right : (n : ℕ) (d : Work) → Visited n d (visit n d)
   unfolding visit
   visit-right n d = by (row n) refl
     where
@@ -281,10 +281,10 @@ module _ (row : ℕ → Row) (t : Table row) (live : ℕ → Bool → Bool) (c :
   abbrev pub DoneFrom : ℕ → Work → Type 0
   DoneFrom = Done row t c enter live (part-of row live c)
 
-  begun : DoneFrom 64 blank
+  pub begun : DoneFrom 64 blank
   begun = pass-begins row t c enter live (part-of row live c) (parts-right row live c (t .sound)) 64 blank (t .beyond) (λ j f. refl) (λ o l q. refl)
 
-  goes-on : (n : ℕ) (d : Work) → DoneFrom (suc n) d → DoneFrom n (visit n d)
+  pub goes-on : (n : ℕ) (d : Work) → DoneFrom (suc n) d → DoneFrom n (visit n d)
   goes-on n d h = pass-goes-on row t c enter live (part-of row live c) (parts-right row live c (t .sound)) n d (visit n d) h (visit-right n d)
 
   pub work-none : work-from 0 ≡ blank
@@ -304,7 +304,7 @@ module _ (row : ℕ → Row) (t : Table row) (live : ℕ → Bool → Bool) (c :
         rw (work-more k, q) (turn n (work-from k) (kept-up k (suc n) (omega arith) (omega arith)))
 
   -- THE DOWNWARD PASS is done
-  pub whole-work : Work
+  unfoldable pub whole-work : Work
   whole-work = work-from 64
 
   pub whole-right : DoneFrom 0 whole-work

@@ -23,6 +23,7 @@ pub mod DownLoop
 pub mod Hands
 pub mod Results
 pub mod Ideal
+pub mod Whole
 pub mod State
 pub mod StateStep
 pub mod StateVerdict
