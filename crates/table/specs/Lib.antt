@@ -1,0 +1,13 @@
+pub mod Choice
+pub mod Bytes
+pub mod Header
+pub mod Kinds
+pub mod Rows
+pub mod First
+pub mod Roots
+pub mod Uses
+pub mod Trees
+pub mod Cells
+pub mod Check
+pub mod Passes
+pub mod Laws
