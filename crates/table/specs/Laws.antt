@@ -1,4 +1,9 @@
 -- Laws of the definitions, which the proofs cite.
 pub mod Choices
+pub mod Numbers
 pub mod Spans
 pub mod Runs
+pub mod Rows
+pub mod Headers
+pub mod Trees
+pub mod Cells

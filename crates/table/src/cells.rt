@@ -33,6 +33,7 @@ impl Cells {
 
 // The cells that were kept for a node.
 fn kept(cells: &[u8; 64], node: u8) -> u8
+    requires { ⌜ length (now cells) ≡ 64 ⌝ }
     ensures { λ r. ⌜ r ≡ min 7 (getD (now (cells .entry)) node 0) ⌝ }
 {
     if node < 64 {
@@ -44,6 +45,7 @@ fn kept(cells: &[u8; 64], node: u8) -> u8
 
 // The cells of a row, where those of smaller nodes are kept.
 fn row_cells(cells: &[u8; 64], row: Row) -> u8
+    requires { ⌜ length (now cells) ≡ 64 ⌝ }
     ensures { λ r. ⌜ r ≡ rowCells (now (cells .entry)) row ⌝ }
 {
     let kind = row.kind;
@@ -56,6 +58,7 @@ fn row_cells(cells: &[u8; 64], row: Row) -> u8
 
 // Number 11 for one node, 0 where it is right.
 fn weak_rule(cells: &[u8; 64], row: Row) -> u8
+    requires { ⌜ length (now cells) ≡ 64 ⌝ }
     ensures { λ r. ⌜ r ≡ weakRule (now (cells .entry)) row ⌝ }
 {
     let kind = row.kind;

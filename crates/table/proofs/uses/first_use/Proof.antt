@@ -1,3 +1,8 @@
+use Rattle.table.proofs.UseLaws.{none-used}
+use Rattle.table.proofs.UseLaws.{counted-all}
+use native.Mathlib.Omega.{arith}
+use mathlib.Core.Path.{_≡_}
+use Rattle.table.specs.Uses.{usesOf}
 use borrow.Author.Needs.{needs}
 use Rattle.table.proofs.uses.first_use.Statement.{statement}
 use Rattle.table.proofs.uses.first_use.Tie as tie
@@ -17,7 +22,8 @@ use-roots-requires c κs = search needs
 
 -- src/uses.rt:120:5
 first-unlike-requires : tie.Need-first-unlike-requires
-first-unlike-requires c κs = ?
+unfolding usesOf
+first-unlike-requires c κs = (c .before .before .before .before .before .before .pre, record { each = counted-all (none-used 64) (c .before .before .before .use-rows .ensures) (c .before .use-roots .ensures) })
 
 -- src/uses.rt:113:1
 returns : tie.Need-returns
