@@ -8,6 +8,8 @@ pub mod Roots
 pub mod Uses
 pub mod Trees
 pub mod Cells
+pub mod Subset
 pub mod Check
 pub mod Passes
 pub mod Laws
+pub mod Facts

@@ -10,6 +10,7 @@ use lib.ListN.{length}
 use Rattle.table.specs.Choice.{pick, within}
 use Rattle.table.specs.Bytes.{u16At, u32At}
 use Rattle.table.specs.Header.{refuse, countsOf, layoutFits, laidOut, headerOf}
+use Rattle.table.specs.Subset.{Layout}
 use Rattle.table.specs.Laws.Choices.{both-so, within-so, so-within, yes-so, no-so, so-both}
 use Rattle.table.specs.Laws.Runs.{clash}
 use Rattle.table.specs.declared.Counts.{Counts}
@@ -26,20 +27,6 @@ pick-no : (b : Bool) (x : Checked) (r : Refusal) (c : Counts) → pick b (Refuse
 unfolding pick
 pick-no true x r c e = clash cc
 pick-no false x r c e = (refl, e)
-
--- the counts and the layout, as the header has them
-pub record Laid (t : List ℕ) (c : Counts) : Type 0 where
-  pub version : u16At t 0 ≡ 1
-  pub signals : u16At t 2 ≡ c .signals
-  pub nodes : u16At t 4 ≡ c .nodes
-  pub properties : u16At t 6 ≡ c .properties
-  pub signals-range : (1 ≤ c .signals) × (c .signals ≤ 32)
-  pub nodes-range : (1 ≤ c .nodes) × (c .nodes ≤ 64)
-  pub properties-range : (1 ≤ c .properties) × (c .properties ≤ 8)
-  pub rows-offset : u16At t 8 ≡ 16
-  pub roots-offset : u16At t 10 ≡ 16 + 4 * c .nodes
-  pub total : u32At t 12 ≡ 16 + 4 * c .nodes + 2 * c .properties
-  pub given : length t ≡ 16 + 4 * c .nodes + 2 * c .properties
 
 counts-so : (s n p : ℕ) (c : Counts) → countsOf s n p ≡ Accepted c
     → (record { signals = s; nodes = n; properties = p } ≡ c) × ((1 ≤ s) × (s ≤ 32)) × ((1 ≤ n) × (n ≤ 64)) × ((1 ≤ p) × (p ≤ 8))
@@ -63,7 +50,7 @@ laid-so t (Accepted d) c e =
     inner e = cc
 laid-so t (Refused r) c e = clash cc
 
-pub header-so : (t : List ℕ) (c : Counts) → headerOf t ≡ Accepted c → Laid t c
+pub header-so : (t : List ℕ) (c : Counts) → headerOf t ≡ Accepted c → Layout t c
 unfolding headerOf layoutFits
 header-so t c e =
     let a = pick-no (ltb (length t) 16) _ _ c e in
@@ -87,7 +74,7 @@ header-so t c e =
       given = eqb-true _ _ (h .1);
     }
 
-so-laid : (t : List ℕ) (c : Counts) → Laid t c → laidOut t (Accepted c) ≡ Accepted c
+so-laid : (t : List ℕ) (c : Counts) → Layout t c → laidOut t (Accepted c) ≡ Accepted c
 unfolding layoutFits
 so-laid t c l =
     sym (yes-so _ _ _ (so-both _ _ (eq-eqb _ _ (l .rows-offset)) (so-both _ _ (eq-eqb _ _ (l .roots-offset)) (so-both _ _ (eq-eqb _ _ (l .total)) (eq-eqb _ _ (l .given))))) refl)
@@ -98,7 +85,7 @@ unfolding countsOf
 so-counts s n p a b d =
     sym (yes-so _ _ _ (so-within 1 32 s (a .0) (a .1)) (yes-so _ _ _ (so-within 1 64 n (b .0) (b .1)) (yes-so _ _ _ (so-within 1 8 p (d .0) (d .1)) refl)))
 
-pub so-header : (t : List ℕ) (c : Counts) → Laid t c → headerOf t ≡ Accepted c
+pub so-header : (t : List ℕ) (c : Counts) → Layout t c → headerOf t ≡ Accepted c
 unfolding headerOf
 so-header t c l =
     sym (no-so _ _ _ (le-ltb (length t) 16 (omega (arith, l .given, l .nodes-range))) (yes-so _ _ _ (eq-eqb _ _ (l .version))
