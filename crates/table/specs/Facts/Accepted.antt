@@ -94,7 +94,7 @@ module _ (t : List ℕ) (s n : ℕ) where
       → ((f : Field) → T (classOk (holdsAt t n f) (classOf (kindAt t (valueAt t n f))))) → RowRight t s n
   unfolding fieldsOk operandsOk operandOk
   row-from k f o = record {
-    kind-rule = so-kind _ k;
+    kind-rule = so-kind (classOf (kindAt t n)) k;
     fields-ok = so-three _ _ _ (f field-a) (f field-b) (f field-c);
     operands-ok = so-three _ _ _ (T-true _ (o field-a)) (T-true _ (o field-b)) (T-true _ (o field-c));
   }
@@ -163,13 +163,13 @@ module _ (t : List ℕ) (c : Counts) where
   unfolding rootRule useRule cellRule
   clean-subset l k = record {
     layout = l;
-    kinds = λ n m. kind-so _ (right n m .kind-rule);
-    smaller = λ n m f i. field-smaller _ _ n (c .signals) (field-ok t (c .signals) n (right n m) f) i;
-    signal = λ n m f i. field-signal _ _ n (c .signals) (field-ok t (c .signals) n (right n m) f) i;
-    unused = λ n m f i. field-unused _ _ n (c .signals) (field-ok t (c .signals) n (right n m) f) i;
+    kinds = λ n m. kind-so (classOf (kindAt t n)) (right n m .kind-rule);
+    smaller = λ n m f i. field-smaller (holdsAt t n f) (valueAt t n f) n (c .signals) (field-ok t (c .signals) n (right n m) f) i;
+    signal = λ n m f i. field-signal (holdsAt t n f) (valueAt t n f) n (c .signals) (field-ok t (c .signals) n (right n m) f) i;
+    unused = λ n m f i. field-unused (holdsAt t n f) (valueAt t n f) n (c .signals) (field-ok t (c .signals) n (right n m) f) i;
     classes = λ n m f. class-ok t (c .signals) n (right n m) f;
     roots = λ p m. ltb-true _ _ (root-so _ _ (k .root p m) .0);
-    root-classes = λ p m. not-sequence _ (root-so _ _ (k .root p m) .1);
+    root-classes = λ p m. not-sequence (classOf (kindAt t (rootAt t (c .nodes) p))) (root-so _ _ (k .root p m) .1);
     once = λ n m h. eqb-true _ _ (use-so (ltb (kindAt t n) 16) _ (le-ltb _ _ h) (k .used n m));
     cells = λ n m e. ltb-false _ _ (cell-so (eqb (kindAt t n) 32) _ (eq-eqb _ _ e) (k .cell n m));
   }
@@ -182,7 +182,7 @@ module _ (t : List ℕ) (c : Counts) where
   subset-clean z = record {
     row = λ n m. right-row t (c .signals) n (row-from t (c .signals) n (z .kinds n m)
         (λ f. so-field (holdsAt t n f) (valueAt t n f) n (c .signals) (z .smaller n m f) (z .signal n m f) (z .unused n m f)) (z .classes n m));
-    root = λ p m. sym (yes-so _ _ _ (lt-ltb _ _ (z .roots p m)) (no-so _ _ _ (so-not _ (z .root-classes p m)) refl));
+    root = λ p m. sym (yes-so _ _ _ (lt-ltb _ _ (z .roots p m)) (no-so _ _ _ (so-not (classOf (kindAt t (rootAt t (c .nodes) p))) (z .root-classes p m)) refl));
     used = λ n m. use-rule n m (decLt (kindAt t n) 16);
     cell = λ n m. cell-rule n m (same? (kindAt t n) 32);
   }
