@@ -7,24 +7,25 @@ use mathlib.Core.Bool.{Bool, true, false, not, _&&_, _||_}
 use mathlib.Core.List.{List}
 use borrow.Author.Tests.{ltb-true, ltb-false, lt-ltb, le-ltb, eq-eqb, ne-eqb}
 use lib.Dec.{T, eqb, ltb}
 use Rattle.table.specs.Choice.{pick, within}
 use Rattle.table.specs.Kinds.{classOf, fieldsOf, classOk, isSequence}
 use Rattle.table.specs.Rows.{rowAt}
 use Rattle.table.specs.Roots.{rootAt}
 use Rattle.table.specs.First.{sumTo}
 use Rattle.table.specs.Trees.{booleanAt}
 use Rattle.table.specs.Uses.{oneIf, useIn, usesInRow, rootUse, usesOf}
 use Rattle.table.specs.Subset.{Field, field-a, field-b, field-c, holdsAt, valueAt, kindAt, InSubset, IsOperand, Subset}
 use Rattle.table.specs.Laws.Choices.{picked, passed, above-no}
 use Rattle.table.specs.Laws.Numbers.{same?}
 use Rattle.table.specs.Laws.Sums.{sum-one, sum-two, sum-some, sum-none}
-use Rattle.table.specs.Facts.SequenceRows.{SequenceRow, r-rest, Has, IsSeq, IsQ, Operands, Sound, shapeOf, made, rowOf}
-use Rattle.table.specs.Facts.Shapes.{hasA, hasB, seqS, Field as ShapeField, has-field, field-has, seq-shape, q-shape, isQ, shape-A, shape-B, shape-C, shape-seq, shape-Q, shape-high}
+use Rattle.lanes.specs.Rows.{Row, r-rest, Has, IsSequence, IsOperand as StandsAsOperand, Sound}
+use Rattle.accepted.specs.Rows.{shapeOf, made, rowOf}
+use Rattle.accepted.specs.Shapes.{hasA, hasB, seqS, Field as ShapeField, has-field, field-has, seq-shape, q-shape, isQ, shape-A, shape-B, shape-C, shape-seq, shape-Q, shape-high}
 use Rattle.table.specs.declared.Counts.{Counts}
 use Rattle.table.specs.declared.kinds.Class.{Class}
 use Rattle.table.specs.declared.kinds.Class.the-variants.{Boolean, Sequence, Property, Strong, Unknown}
 use Rattle.table.specs.declared.kinds.Holds.{Holds}
 use Rattle.table.specs.declared.kinds.Holds.the-variants.{Nothing, Signal, B, Q, F}
 
 -- a kind past 50 is unknown
 unknown : (k : ℕ) → 50 < k → classOf k ≡ Unknown
@@ -76,10 +77,10 @@ one-of x v l = go (same? x v)
     go (no n) = absurd (omega (arith, passed {A = ℕ} (eqb x v) 1 0 (ne-eqb x v n)))
 
 module _ (t : List ℕ) (c : Counts) (z : Subset t c) where
-  abbrev rowT : ℕ → SequenceRow
+  abbrev rowT : ℕ → Row
   rowT = rowOf t (c .nodes)
 
-  abbrev shaped : ℕ → SequenceRow
+  abbrev shaped : ℕ → Row
   shaped n = made (shapeOf (kindAt t n)) (rowAt t n .a) (rowAt t n .b) (booleanAt t n)
 
   pub row-in : (n : ℕ) → n < c .nodes → rowT n ≡ shaped n
@@ -94,7 +95,7 @@ module _ (t : List ℕ) (c : Counts) (z : Subset t c) where
   past-rows n l = row-out n (omega (arith, z .layout .nodes-range))
 
   -- a row that is not r-rest is a node's
-  pub row-low : (n : ℕ) (P : SequenceRow → Type 0) → P (rowT n) → (P r-rest → ⊥) → n < c .nodes
+  pub row-low : (n : ℕ) (P : Row → Type 0) → P (rowT n) → (P r-rest → ⊥) → n < c .nodes
   row-low n P h no-rest = elim (decLt n (c .nodes)) [ yes l ↦ l | no l ↦ absurd (no-rest (subst P (row-out n (omega arith)) h)) ]
 
   pub known : (n : ℕ) → n < c .nodes → kindAt t n < 51
@@ -156,17 +157,17 @@ module _ (t : List ℕ) (c : Counts) (z : Subset t c) where
   T-false true h = absurd h
   T-false false h = refl
 
-  seq-known : (v : ℕ) → IsSeq (rowT v) → (v < c .nodes) × (seqS (shapeOf (kindAt t v)) ≡ true)
+  seq-known : (v : ℕ) → IsSequence (rowT v) → (v < c .nodes) × (seqS (shapeOf (kindAt t v)) ≡ true)
   seq-known v i =
-      let l = row-low v IsSeq i (λ h. h) in
-      (l, T-true _ (seq-shape (rowAt t v .a) (rowAt t v .b) (booleanAt t v) (shapeOf (kindAt t v)) (subst IsSeq (row-in v l) i)))
+      let l = row-low v IsSequence i (λ h. h) in
+      (l, T-true _ (seq-shape (rowAt t v .a) (rowAt t v .b) (booleanAt t v) (shapeOf (kindAt t v)) (subst IsSequence (row-in v l) i)))
 
-  uses-one : (v : ℕ) → IsSeq (rowT v) → usesOf t (c .nodes) (c .properties) v ≡ 1
+  uses-one : (v : ℕ) → IsSequence (rowT v) → usesOf t (c .nodes) (c .properties) v ≡ 1
   uses-one v i =
       let k = seq-known v i in
       z .once v (k .0) (ltb-false (kindAt t v) 16 (T-false _ (shape-high (kindAt t v) (known v (k .0)) (k .1))))
 
-  once : (n k : ℕ) (f h : Bool) (v : ℕ) → IsSeq (rowT v) → Has (rowT n) f v → Has (rowT k) h v → (n ≡ k) × (f ≡ h)
+  once : (n k : ℕ) (f h : Bool) (v : ℕ) → IsSequence (rowT v) → Has (rowT n) f v → Has (rowT k) h v → (n ≡ k) × (f ≡ h)
   unfolding usesOf
   once n k f h v s i j =
       let x = has-stands n f v i in let y = has-stands k h v j in let u = uses-one v s in
@@ -210,7 +211,7 @@ module _ (t : List ℕ) (c : Counts) (z : Subset t c) where
     ]
   ]
 
-  used : (v : ℕ) → IsSeq (rowT v) → (n : ℕ) × (f : Bool) × Has (rowT n) f v
+  used : (v : ℕ) → IsSequence (rowT v) → (n : ℕ) × (f : Bool) × Has (rowT n) f v
   unfolding usesOf
   used v i =
       let k = seq-known v i in
@@ -224,16 +225,13 @@ module _ (t : List ℕ) (c : Counts) (z : Subset t c) where
   falls-has : (n : ℕ) (f : Bool) (v : ℕ) → Has (rowT n) f v → v < n
   falls-has n f v i = let x = has-stands n f v i in stands-small n f v (x .0) (x .1)
 
-  class-has : (n : ℕ) (f : Bool) (v : ℕ) → Has (rowT n) f v → IsQ (rowT v)
+  class-has : (n : ℕ) (f : Bool) (v : ℕ) → Has (rowT n) f v → StandsAsOperand (rowT v)
   class-has n f v i =
       let x = has-stands n f v i in
       let l : v < c .nodes = omega (arith, stands-small n f v (x .0) (x .1), x .0) in
-      subst IsQ (sym (row-in v l)) (q-shape (rowAt t v .a) (rowAt t v .b) (booleanAt t v) (shapeOf (kindAt t v))
+      subst StandsAsOperand (sym (row-in v l)) (q-shape (rowAt t v .a) (rowAt t v .b) (booleanAt t v) (shapeOf (kindAt t v))
       (shape-Q (kindAt t v) (known v l) (stands-class n f v (x .0) (x .1))))
 
-  -- OPERANDS ARE SMALLER AND STAND AS SEQUENCES; EACH SEQUENCE STANDS IN ONE PLACE
-  pub operands : Operands rowT
-  operands = record { falls = falls-has; class = class-has }
-
+  -- OPERANDS ARE SMALLER, AND BOOLEANS OR SEQUENCES; EACH SEQUENCE STANDS IN ONE PLACE
   pub sound : Sound rowT
-  sound = record { falls = falls-has; once = once; used = used }
+  sound = record { falls = falls-has; class = class-has; once = once; used = used }

@@ -5,12 +5,13 @@ use mathlib.Core.Bool.{Bool, true, false, not, _&&_, _||_}
 use mathlib.Core.Path.{_≡_, refl, sym, subst}
 use lib.Dec.{T, ltb}
 use Rattle.psl.specs.Booleans.{Boolean}
 use Rattle.table.specs.Choice.{pick}
 use Rattle.table.specs.Kinds.{classOf, takesOf, fieldsOf, classOk, isSequence}
 use Rattle.table.specs.Laws.Spans.{every}
-use Rattle.table.specs.Facts.SequenceRows.{SequenceRow, Has, IsSeq, IsQ, Shape, h-bool, h-then, h-fuse, h-alt, h-star, h-plus, h-weak, h-left, h-rest, shapeOf, made}
+use Rattle.lanes.specs.Rows.{Row, Has, IsSequence, IsOperand}
+use Rattle.accepted.specs.Rows.{Shape, h-bool, h-then, h-fuse, h-alt, h-star, h-plus, h-weak, h-left, h-rest, shapeOf, made}
 use Rattle.table.specs.declared.kinds.Holds.{Holds}
 use Rattle.table.specs.declared.kinds.Holds.the-variants.{Nothing, Signal, B, Q, F}
 
 abbrev pub hasA : Shape → Bool
 hasA h-bool = false
@@ -100,7 +101,7 @@ module _ (a b : ℕ) (x : Boolean) (v : ℕ) where
   field-has h-rest true i = absurd (i .0)
 
 module _ (a b : ℕ) (x : Boolean) where
-  pub seq-shape : (h : Shape) → IsSeq (made h a b x) → T (seqS h)
+  pub seq-shape : (h : Shape) → IsSequence (made h a b x) → T (seqS h)
   seq-shape h-bool i = i
   seq-shape h-then i = i
   seq-shape h-fuse i = i
@@ -111,7 +112,7 @@ module _ (a b : ℕ) (x : Boolean) where
   seq-shape h-left i = i
   seq-shape h-rest i = i
 
-  pub q-shape : (h : Shape) → T (boolS h || seqS h) → IsQ (made h a b x)
+  pub q-shape : (h : Shape) → T (boolS h || seqS h) → IsOperand (made h a b x)
   q-shape h-bool i = i
   q-shape h-then i = i
   q-shape h-fuse i = i
