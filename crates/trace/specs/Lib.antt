@@ -1,0 +1,5 @@
+pub mod Bytes
+pub mod Trace
+pub mod Refusals
+pub mod Reader
+pub mod Samples
