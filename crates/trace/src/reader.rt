@@ -1,6 +1,6 @@
 // A reader over a lent trace: it holds the bytes and the place of the next sample, and gives one sample after the other.
 ghost use mathlib.Core.Path.{_≡_};
-ghost use Rattle.trace.specs.Reader.{readingAt};
+ghost use Rattle.trace.specs.Reader.{readingAt, gives, moved};
 use crate::bytes::cycles_of;
 use crate::bytes::sample_at;
 
@@ -36,4 +36,30 @@ pub fn reading_at(bytes: &[u8], at: u32) -> Reading
             at,
         }
     }
+}
+
+impl<'a> TraceReader<'a> {
+    // A reader at the first sample.
+    pub fn new(bytes: &'a [u8]) -> TraceReader<'a>
+        ensures { λ r. ⌜ (r .bytes ≡ bytes .entry) × (r .at ≡ 0) ⌝ }
+    {
+        TraceReader { bytes, at: 0 }
+    }
+
+    // Gives the sample at its place, and stands at the next one then.
+    pub fn next(&mut self) -> Next
+        ensures { λ r. ⌜ (r ≡ gives (now (self .entry))) × (now (self .exit) ≡ moved (now (self .entry))) ⌝ }
+    {
+        let reading = reading_at(self.bytes, self.at);
+        self.at = reading.at;
+        reading.next
+    }
+}
+
+// What a reader at a place gives, for whoever has the bytes and the place.
+pub fn next_at(bytes: &[u8], at: u32) -> Next
+    ensures { λ r. ⌜ r ≡ readingAt (now (bytes .entry)) at .next ⌝ }
+{
+    let mut reader = TraceReader { bytes, at };
+    reader.next()
 }
