@@ -1,4 +1,4 @@
-use Rattle.trace.proofs.Readings.{reading-more, reading-none}
+use Rattle.trace.specs.Readings.{reading-more, reading-none}
 use borrow.Author.Needs.{needs}
 use Rattle.trace.proofs.reader.reading_at.Statement.{statement}
 use Rattle.trace.proofs.reader.reading_at.Tie as tie
