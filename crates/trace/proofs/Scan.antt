@@ -1,11 +1,11 @@
 -- The scan of the samples, what is left of the answer at each turn of the loop; and the answer of the whole check.
-use Prim.Native.Nat.{ℕ, zero, suc, _+_, _-_, _≤_, _<_}
+use Prim.Native.Nat.{ℕ, suc, _+_, _-_, _≤_, _<_}
 use native.Mathlib.Nat.{sub-zero}
 use native.Mathlib.Numerals.{add-one}
 use native.Mathlib.Omega.{arith}
 use mathlib.Core.Bool.{Bool, true, false, cond}
 use mathlib.Core.List.{List}
-use mathlib.Core.Path.{_≡_, refl, sym, _∙_, ap}
+use mathlib.Core.Path.{_≡_, sym, _∙_, ap}
 use lib.ListN.{length}
 use Rattle.trace.specs.Trace.{sampleAt}
 use Rattle.trace.specs.Refusals.{headerOf, headerRight, undeclared, declaredFrom, declaredOf, checkedTrace}

@@ -1,18 +1,18 @@
 -- What the answer of the check means, clause by clause: `checkedTrace` gives exactly the answer that document 01 gives.
-use Prim.Native.Nat.{ℕ, zero, suc, _+_, _-_, _*_, _^_, _≤_, _<_}
+use Prim.Native.Nat.{ℕ, zero, suc, _+_, _*_, _^_, _≤_, _<_}
 use native.Mathlib.Omega.{arith}
 use native.Mathlib.Decide.{decLt}
-use mathlib.Core.Bool.{Bool, true, false, _&&_, cond}
+use mathlib.Core.Bool.{Bool, true, false, cond}
 use mathlib.Core.List.{List}
-use mathlib.Core.Path.{_≡_, refl, sym, _∙_, ap, subst}
+use mathlib.Core.Path.{_≡_, refl, sym, ap, subst}
 use lib.Dec.{leb, leb→le, le→leb}
 use borrow.Author.Tests.{le-leb}
-use lib.ListN.{length, getD}
+use lib.ListN.{length}
 use Rattle.psl.specs.Proof.Decide.Tells.{Tells, does, doesnt, tells-and, tells-iff, tells-true, tells-eq, tells-T}
 use Rattle.words.specs.Sets.{HasFrom}
 use Rattle.words.specs.Ends.{has-from}
 use Rattle.trace.specs.Bytes.{u16At, u32At}
-use Rattle.trace.specs.Trace.{cyclesOf, sampleAt, samplesOf, RightTrace}
+use Rattle.trace.specs.Trace.{cyclesOf, sampleAt, RightTrace}
 use Rattle.trace.specs.Refusals.{headerOf, headerRight, undeclared, declaredFrom, declaredOf, checkedTrace}
 use Rattle.trace.specs.declared.refusals.TraceChecked.{TraceChecked}
 use Rattle.trace.specs.declared.refusals.TraceChecked.the-variants.{Accepted, Refused}

@@ -1,4 +1,4 @@
--- What a reader gives.
+-- What a reader gives. It goes by the samples of its bytes, whatever bytes those are: as many as the header states, and a byte past the end reads as 0.
 use Prim.Native.Nat.{ℕ, _+_}
 use mathlib.Core.List.{List, [], _∷_}
 use denote.Ref.{now}

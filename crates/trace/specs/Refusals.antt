@@ -20,7 +20,7 @@ headerRight header S bytes =
     eqb (header .version) 1 && eqb (header .signals) S && leb (header .cycles) 16381 && eqb (header .offset) 12
     && eqb bytes (12 + 4 * header .cycles)
 
--- "a sample sets a bit S or above"
+-- "a sample sets a bit S or above": it is 2 ^ S or more
 unfoldable pub undeclared : ℕ → ℕ → Bool
 undeclared S sample = leb (2 ^ S) sample
 

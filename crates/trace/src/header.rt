@@ -15,9 +15,6 @@ impl Header {
     // The most cycles of a trace.
     pub const CYCLES: u32 = 16_381;
 
-    // The bytes of a header.
-    pub const BYTES: u32 = 12;
-
     // The header that stands at the start of the bytes.
     pub fn new(bytes: &[u8]) -> Self
         ensures { λ r. ⌜ r ≡ headerOf (now (bytes .entry)) ⌝ }
@@ -37,7 +34,7 @@ impl Header {
         (self.version == 1)
             & (self.signals == (signals as u16))
             & (self.cycles <= Self::CYCLES)
-            & (self.offset == Self::BYTES)
+            & (self.offset == 12)
             & (length == 12 + 4 * (self.cycles as usize))
     }
 }

@@ -1,7 +1,6 @@
 // The check of a trace: refusal 15, then 13 at the lowest cycle.
 ghost use mathlib.Core.Path.{_≡_};
 ghost use Rattle.trace.specs.Refusals.{undeclared, declaredOf, checkedTrace};
-ghost use Rattle.trace.specs.Trace.{sampleAt};
 use crate::bytes::sample_at;
 use crate::header::Header;
 
