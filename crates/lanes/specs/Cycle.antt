@@ -56,7 +56,7 @@ module _ (row : ℕ → Row) (t : Table row) (node : ℕ → Node) (root : ℕ) 
   unfoldable pub held-next : ℕ → Bool
   held-next n = keeps (node n) (begins n) (k .held n) (hit n (begins n)) x
 
-  pub work : Work
+  unfoldable pub work : Work
   work = whole-work row t (k .live) (sample x) enters
 
   -- the pending sets of the weak sequence of row n

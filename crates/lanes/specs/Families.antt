@@ -71,6 +71,15 @@ pub record Lanes (r : Sequence) (c : Letter) (now : Bool) (E : ℕ → Bool) (R 
   pub fresh : (step r c (gate r now (first r)) .0 ≡ E 6) × (step r c (gate r now (first r)) .1 ≡ fill r 0 (R 6))
   pub inside : (l q : ℕ) → l < 7 → cells r ≤ q → R l q ≡ false
 
+-- no lane 6 in a set below 64, and lane 6 alone in the set 64
+pub no-six : (p : ℕ) (F : ℕ → Bool) → p < 64 → any 7 (λ l. bit p l && F l) ≡ any 6 (λ l. bit p l && F l)
+unfolding any
+no-six p F l = rw (div-eq-of-lt l)
+
+pub only-six : (F : ℕ → Bool) → any 7 (λ l. bit 64 l && F l) ≡ F 6
+unfolding any
+only-six F = or-false (F 6)
+
 module _ (E : ℕ → Bool) (R : ℕ → ℕ → Bool) where
   -- whether some lane of the set p ends it, and the set that its lanes lead to
   abbrev pub set-ends : ℕ → Bool
@@ -90,11 +99,6 @@ module _ (E : ℕ → Bool) (R : ℕ → ℕ → Bool) where
     unmask-bits : (p : ℕ) → unmask r p ≡ fill r 0 (bit p)
     unmask-bits p = rw div-one at (unmask-fill r p 0)
 
-    -- no lane 6 in a set below 64
-    no-six : (p : ℕ) (F : ℕ → Bool) → p < 64 → any 7 (λ l. bit p l && F l) ≡ any 6 (λ l. bit p l && F l)
-    unfolding any
-    no-six p F l = rw (div-eq-of-lt l)
-
     ends-same : (p : ℕ) → p < 64 → set-ends p ≡ machine .ends r p x
     ends-same p l = no-six p E l ∙ sym (step-set r (sample x) E R (bit p) 6 (h .few) (h .each) .0) ∙ ap (λ m. step r (sample x) m .0) (sym (unmask-bits p))
 
@@ -109,10 +113,6 @@ module _ (E : ℕ → Bool) (R : ℕ → ℕ → Bool) where
     image-same : (p : ℕ) → p < 64 → image p ≡ machine .go r p x
     image-same p l = sym (mask-word _ r 6 (h .few) (beyond p)) ∙ ap (mask r) (fill-same _ _ r 0 (λ q i j. no-six p (λ k. R k q) l)
         ∙ sym (step-set r (sample x) E R (bit p) 6 (h .few) (h .each) .1) ∙ ap (λ m. step r (sample x) m .1) (sym (unmask-bits p)))
-
-    only-six : (F : ℕ → Bool) → any 7 (λ l. bit 64 l && F l) ≡ F 6
-    unfolding any
-    only-six F = or-false (F 6)
 
     first-is : now ≡ true → gate r now (first r) ≡ unmask r (mask r (first r))
     first-is t = ap (λ (b : Bool). gate r b (first r)) t ∙ sym (rw (zero-mul, zero-add) at (unmask-mask r (first r) 0))

@@ -1,0 +1,4 @@
+pub mod ReachedLaws
+pub mod PlannedLaws
+pub mod FamilyLaws
+pub mod FamilyMoves
