@@ -7,8 +7,8 @@ ghost use Rattle.table.specs.Header.{layoutFits, laidOut, headerOf};
 use crate::Checked;
 use crate::Counts;
 use crate::Refusal;
-use crate::bytes::u16_at;
-use crate::bytes::u32_at;
+use little::u16_at;
+use little::u32_at;
 
 // A count is at least 1, and at most what its type allows.
 pub fn is_count(most: u16, count: u16) -> bool

@@ -4,13 +4,17 @@ ghost use Rattle.table.specs.Header.{countsOf, refuse};
 ghost use Rattle.table.specs.Check.{checkOf, rowsOnward, rootsOnward, usesOnward};
 ghost use Rattle.table.specs.Passes.{Sized, RowsRight};
 
-pub mod bytes;
 mod cells;
 mod header;
-pub mod kinds;
+mod kinds;
 mod roots;
-pub mod rows;
+mod rows;
 mod uses;
+
+pub use cells::Cells;
+pub use roots::root_at;
+pub use rows::Row;
+pub use rows::row_at;
 
 // How much of each a table holds.
 pub struct Counts {
@@ -32,13 +36,13 @@ pub enum Checked {
 }
 
 // The first refusal of a run of rules.
-pub enum Found {
+enum Found {
     Clear,
     At(Refusal),
 }
 
 impl Refusal {
-    pub fn new(number: u8, place: u32) -> Checked
+    fn new(number: u8, place: u32) -> Checked
         ensures { λ r. ⌜ r ≡ refuse number place ⌝ }
     {
         Checked::Refused(Refusal { number, place })

@@ -4,10 +4,10 @@ ghost use Rattle.table.specs.Roots.{rootAt, rootRule};
 ghost use Rattle.table.specs.First.{firstRefusal};
 use crate::Found;
 use crate::Refusal;
-use crate::bytes::u16_at;
 use crate::kinds::class_of;
 use crate::kinds::is_sequence;
 use crate::rows::kind_at;
+use little::u16_at;
 
 // The root of a property.
 pub fn root_at(table: &[u8], nodes: u8, property: u8) -> u16

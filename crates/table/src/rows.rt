@@ -6,7 +6,6 @@ ghost use Rattle.table.specs.Rows.{rowAt, edgeRow, fieldOk, fieldsOk, op
 ghost use Rattle.table.specs.First.{firstRefusal};
 use crate::Found;
 use crate::Refusal;
-use crate::bytes::byte_at;
 use crate::kinds::Fields;
 use crate::kinds::Holds;
 use crate::kinds::class_of;
@@ -14,6 +13,7 @@ use crate::kinds::class_ok;
 use crate::kinds::fields_by;
 use crate::kinds::kind_rule;
 use crate::kinds::takes_of;
+use little::byte_at;
 
 // A node row.
 pub struct Row {
