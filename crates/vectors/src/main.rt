@@ -5,7 +5,7 @@ ghost use Prim.Native.Nat.{_≤_};
 ghost use lib.ListN.{length};
 use libc::STDIN_FILENO;
 use libc::STDOUT_FILENO;
-use table::bytes::u32_at;
+use little::u32_at;
 
 // What a record says before its bytes.
 struct Head {

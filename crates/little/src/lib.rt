@@ -1,6 +1,6 @@
 // Little-endian numbers at a place in lent bytes; a byte past the end reads as 0.
 ghost use mathlib.Core.Path.{_≡_};
-ghost use Rattle.table.specs.Bytes.{byteAt, u16At, u32At};
+ghost use Rattle.little.specs.Bytes.{byteAt, u16At, u32At};
 
 pub fn byte_at(bytes: &[u8], at: usize) -> u8
     ensures { λ r. ⌜ r ≡ byteAt (now (bytes .entry)) at ⌝ }
