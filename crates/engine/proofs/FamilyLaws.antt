@@ -3,78 +3,64 @@ use Prim.Native.Nat.{ℕ, zero, suc, _+_, _-_, _*_, _/_, _%_, _^_, _≤_, _<_}
 use native.Mathlib.Nat.{mod-eq-of-lt}
 use native.Mathlib.Omega.{arith}
 use native.Mathlib.Decide.{decLt}
-use mathlib.Core.Path.{_≡_, refl, sym, _∙_, ap, ap₂, subst}
+use mathlib.Core.Path.{_≡_, refl, sym, _∙_, ap, ap₂}
 use mathlib.Core.Bool.{Bool, true, false, not, _&&_, _||_, or-false, and-true, and-false}
-use mathlib.Core.List.{List}
+use mathlib.Core.List.{List, [], _∷_}
+use mathlib.Core.Logic.{_⊎_, inl, inr}
 use lib.Bits.{bitOr, bitAnd}
 use lib.Dec.{T, eqb, ltb}
-use lib.ListN.{getD}
+use lib.ListN.{getD, set, length}
 use borrow.Author.Tests.{eq-eqb, ne-eqb, lt-ltb, lt-leb, le-leb}
 use Rattle.psl.specs.Booleans.{bit}
 use Rattle.psl.specs.Proof.Decide.Tells.{any}
-use Rattle.words.specs.Bits.{bit-zero, bit-none, bit-or, bit-and, bit-shr, bit-mod, bit-shifted, same-bits}
+use Rattle.words.specs.Bits.{bit-none, bit-or, bit-and, bit-shr, bit-mod, bit-shifted, same-bits}
 use Rattle.table.specs.Laws.Spans.{allFrom, every}
 use Rattle.accepted.specs.Shapes.{same, same-eq}
 use Rattle.lanes.specs.SetSteps.{below, below-suc, below-zero, below-all}
 use Rattle.lanes.specs.Families.{word, word-bit, word-lt, no-six, only-six, image}
 use Rattle.engine.specs.Families.{leadsIn}
-use Rattle.engine.specs.FamilySteps.{Within, Without, Spread, Led, setOf, Leads, threes, imageOf, imageBy}
+use Rattle.engine.specs.FamilySteps.{Spread, Led, setOf, Leads, threes, imageOf, imageBy}
 
 -- ---- the sets without a lane
 
-abbrev lane-out : ℕ → ℕ → ℕ → Bool
+-- whether the mask lacks the set s just if s has the lane l
+abbrev pub lane-out : ℕ → ℕ → ℕ → Bool
 lane-out mask l s = same (not (bit mask s)) (bit s l)
 
--- the mask has the sets without lane l
-abbrev Masks : ℕ → ℕ → Type 0
-Masks mask l = (s : ℕ) → s < 64 → not (bit mask s) ≡ bit s l
-
-masks : (mask l : ℕ) → T (allFrom (lane-out mask l) 0 64) → Masks mask l
-masks mask l t s h = same-eq _ _ (every (lane-out mask l) 0 64 t s (omega arith) (omega arith))
-
-drop-more : (f a x : Bool) → (f && not a) && not x ≡ f && not (x || a)
-drop-more true true true = refl
-drop-more true true false = refl
-drop-more true false true = refl
-drop-more true false false = refl
-drop-more false a x = refl
-
-pub within-on : (family mask : ℕ) → Within family mask true (bitAnd family mask)
-within-on family mask = record { each = λ s. bit-and family mask s ∙ ap (λ (b : Bool). bit family s && b) (twice (bit mask s)) }
-  where
-    twice : (b : Bool) → b ≡ not (not b && true)
-    twice true = refl
-    twice false = refl
-
-pub within-off : (family mask : ℕ) → Within family mask false family
-within-off family mask = record { each = λ s. kept (bit family s) (bit mask s) }
-  where
-    kept : (f b : Bool) → f ≡ f && not (not b && false)
-    kept true true = refl
-    kept true false = refl
-    kept false b = refl
-
 -- the sets without the lanes of ends below n
-abbrev Lacks : ℕ → ℕ → ℕ → ℕ → Type 0
+abbrev pub Lacks : ℕ → ℕ → ℕ → ℕ → Type 0
 Lacks family ends n r = (s : ℕ) → s < 64 → bit r s ≡ bit family s && not (any n (λ l. bit s l && bit ends l))
 
-lacks-more : (family ends mask n x r : ℕ) → Masks mask n → Lacks family ends n x → Within x mask (bit ends n) r → Lacks family ends (suc n) r
+pub lacks-none : (family ends : ℕ) → Lacks family ends 0 family
 unfolding any
-lacks-more family ends mask n x r m h w s l =
-    w .each s ∙ ap₂ (λ (a b : Bool). a && not (b && bit ends n)) (h s l) (m s l)
-    ∙ drop-more (bit family s) (any n (λ l. bit s l && bit ends l)) (bit s n && bit ends n)
+lacks-none family ends s l = sym (and-true (bit family s))
 
-pub without-is : (family ends a b c d e r : ℕ)
-    → Within family 6148914691236517205 (eqb (ends % 2) 1) a → Within a 3689348814741910323 (bit ends 1) b
-    → Within b 1085102592571150095 (bit ends 2) c → Within c 71777214294589695 (bit ends 3) d
-    → Within d 281470681808895 (bit ends 4) e → Within e 4294967295 (bit ends 5) r
-    → Without family ends r
+-- where lane n ends, only the sets stay that a mask has: those without lane n
+pub lacks-more : (family ends mask n x y : ℕ) → T (allFrom (lane-out mask n) 0 64) → Lacks family ends n x
+    → ((ends / 2 ^ n % 2 ≡ 1) × (y ≡ bitAnd x mask)) ⊎ ((ends / 2 ^ n % 2 ≡ 1 → ⊥) × (y ≡ x)) → Lacks family ends (suc n) y
 unfolding any
-without-is family ends a b c d e r u v w x y z = record {
-  each = lacks-more family ends _ 5 e r (masks _ 5 tt) (lacks-more family ends _ 4 d e (masks _ 4 tt) (lacks-more family ends _ 3 c d (masks _ 3 tt)
-      (lacks-more family ends _ 2 b c (masks _ 2 tt) (lacks-more family ends _ 1 a b (masks _ 1 tt)
-      (lacks-more family ends _ 0 family a (masks _ 0 tt) (λ s l. sym (and-true (bit family s))) (subst (λ (on : Bool). Within family 6148914691236517205 on a) (sym (bit-zero ends)) u)) v) w) x) y) z;
-}
+lacks-more family ends mask n x y test h cut s l =
+    kept cut ∙ ap (λ (b : Bool). b && not (bit s n && bit ends n)) (h s l)
+    ∙ drop-more (bit family s) (any n (λ l. bit s l && bit ends l)) (bit s n && bit ends n)
+  where
+    in-mask : not (bit mask s) ≡ bit s n
+    in-mask = same-eq _ _ (every (lane-out mask n) 0 64 test s (omega arith) (omega arith))
+
+    drop-more : (f a x : Bool) → (f && not a) && not x ≡ f && not (x || a)
+    drop-more true true true = refl
+    drop-more true true false = refl
+    drop-more true false true = refl
+    drop-more true false false = refl
+    drop-more false a x = refl
+
+    masked : (m b : Bool) → not m ≡ b → m ≡ not (b && true)
+    masked true b e = ap (λ (d : Bool). not (d && true)) e
+    masked false b e = ap (λ (d : Bool). not (d && true)) e
+
+    kept : ((ends / 2 ^ n % 2 ≡ 1) × (y ≡ bitAnd x mask)) ⊎ ((ends / 2 ^ n % 2 ≡ 1 → ⊥) × (y ≡ x)) → bit y s ≡ bit x s && not (bit s n && bit ends n)
+    kept (inl w) = ap (λ (r : ℕ). bit r s) (w .1) ∙ bit-and x mask s
+        ∙ rw (eq-eqb (ends / 2 ^ n % 2) 1 (w .0)) (ap (λ (b : Bool). bit x s && b) (masked (bit mask s) (bit s n) in-mask))
+    kept (inr w) = ap (λ (r : ℕ). bit r s) (w .1) ∙ rw (ne-eqb (ends / 2 ^ n % 2) 1 (w .0), and-false (bit s n)) (sym (and-true (bit x s)))
 
 -- ---- lanes spread over bytes
 
@@ -133,6 +119,20 @@ turned-is leads w a b c d e f u v x y z t = let R = leadsIn leads w in
     gathered R _ (next-cell R 5 _ f (next-cell R 4 _ e (next-cell R 3 _ d (next-cell R 2 _ c (next-cell R 1 a b (first-cell R a (u .each)) (v .each)) (x .each)) (y .each)) (z .each)) (t .each))
 
 -- ---- the tables of images
+
+-- the eight stores
+pub images-are : (x y z : ℕ) (to : List ℕ) → length to ≡ 8
+    → set (set (set (set (set (set (set (set to 0 0) 1 x) 2 y) 3 (bitOr y x)) 4 z) 5 (bitOr z x)) 6 (bitOr z y)) 7 (bitOr z (bitOr y x)) ≡ threes x y z
+images-are x y z (a ∷ b ∷ c ∷ d ∷ e ∷ f ∷ g ∷ h ∷ []) l = refl
+images-are x y z [] l = absurd (omega arith)
+images-are x y z (a ∷ []) l = absurd (omega arith)
+images-are x y z (a ∷ b ∷ []) l = absurd (omega arith)
+images-are x y z (a ∷ b ∷ c ∷ []) l = absurd (omega arith)
+images-are x y z (a ∷ b ∷ c ∷ d ∷ []) l = absurd (omega arith)
+images-are x y z (a ∷ b ∷ c ∷ d ∷ e ∷ []) l = absurd (omega arith)
+images-are x y z (a ∷ b ∷ c ∷ d ∷ e ∷ f ∷ []) l = absurd (omega arith)
+images-are x y z (a ∷ b ∷ c ∷ d ∷ e ∷ f ∷ g ∷ []) l = absurd (omega arith)
+images-are x y z (a ∷ b ∷ c ∷ d ∷ e ∷ f ∷ g ∷ h ∷ i ∷ rest) l = absurd (omega arith)
 
 -- bit k of the entry of three cells: the cells of i that lead to k
 three-bit : (x y z i k : ℕ) → i < 8 → bit (getD (threes x y z) i 0) k ≡ (bit i 2 && bit z k) || ((bit i 1 && bit y k) || ((bit i 0 && bit x k) || false))

@@ -118,28 +118,28 @@ quiet R top s l = ap₂ _||_ (nothing 64 (λ p. moves (bit top) R p s)) (ap (λ 
 
 -- ---- the family w in its place
 
-module _ (w all : ℕ) (tops leads old : List ℕ) (size : length old ≡ 32) where
+module _ (w all : ℕ) (tops leads old : List ℕ) where
   pub one-quiet : getD old w 0 ≡ 0 → getD tops w 0 < 128 → OneMoved w all tops leads old old all
   one-quiet e l = record {
     each = λ s i. none s ∙ sym (ap (λ (x : ℕ). moved-to (bit (getD tops w 0)) (leadsIn leads w) (bit (getD tops w 0) 7) (bit x) s) e ∙ quiet (leadsIn leads w) (getD tops w 0) s l);
     others = λ v n. refl;
     all-is = λ s. sym (ap (λ (b : Bool). bit all s || b) (none s) ∙ or-false (bit all s));
-    size = size;
+    size = refl;
   }
     where
       none : (s : ℕ) → bit (getD old w 0) s ≡ false
       none s = ap (λ (x : ℕ). bit x s) e ∙ bit-none s
 
-  pub one-moved : (sets next : ℕ) → w < 32 → Leads (leadsIn leads w) sets → Stepped (getD old w 0) sets (getD tops w 0) next → OneMoved w all tops leads old (set old w next) (bitOr all next)
+  pub one-moved : (sets next : ℕ) → w < length old → Leads (leadsIn leads w) sets → Stepped (getD old w 0) sets (getD tops w 0) next → OneMoved w all tops leads old (set old w next) (bitOr all next)
   one-moved sets next l h k = record {
     each = λ s i. ap (λ (x : ℕ). bit x s) here ∙ k .each (leadsIn leads w) h s i;
     others = λ v n. getD-set-other old w v next 0 n;
     all-is = λ s. bit-or all next s ∙ ap (λ (x : ℕ). bit all s || bit x s) (sym here);
-    size = length-set old w next ∙ size;
+    size = length-set old w next;
   }
     where
       here : getD (set old w next) w 0 ≡ next
-      here = getD-set-same old w next 0 (omega arith)
+      here = getD-set-same old w next 0 l
 
 -- ---- all families
 
@@ -150,6 +150,7 @@ module _ (tops leads old : List ℕ) where
     others = λ w l. refl;
     all-has = λ w l. absurd (omega arith);
     all-only = λ s e. absurd (clash e (bit-none s));
+    size = refl;
   }
 
   module _ (w all r : ℕ) (mid new : List ℕ) (m : Moved w tops leads old mid all) (o : OneMoved w all tops leads mid new r) where
@@ -168,6 +169,7 @@ module _ (tops leads old : List ℕ) where
         | no h ↦ ap (λ (b : Bool). bit all s || b) (rw (at v l .1 h) at e) ∙ or-true (bit all s)
       ];
       all-only = λ s e. go s (bit all s) (bit (getD new w 0) s) (sym (o .all-is s) ∙ e) refl refl;
+      size = o .size ∙ m .size;
     }
       where
         go : (s : ℕ) (x y : Bool) → x || y ≡ true → bit all s ≡ x → bit (getD new w 0) s ≡ y → (v : ℕ) × (v < w + 1) × (bit (getD new v 0) s ≡ true)

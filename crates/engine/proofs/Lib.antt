@@ -1,3 +1,13 @@
+pub mod RowLaws
+pub mod TruthLaws
+pub mod StepLaws
+pub mod VisitLaws
+pub mod PassLaws
+pub mod PassLoop
+pub mod SideLaws
+pub mod SideRowLaws
+pub mod SideUpLaws
+pub mod SideDownLaws
 pub mod ReachedLaws
 pub mod PlannedLaws
 pub mod FamilyLaws

@@ -3,7 +3,7 @@ use Prim.Native.Nat.{ℕ, _+_, _*_, _≤_, _<_}
 use mathlib.Core.Path.{_≡_}
 use mathlib.Core.Bool.{Bool, true}
 use mathlib.Core.List.{List}
-use lib.ListN.{getD}
+use lib.ListN.{getD, length}
 use Rattle.psl.specs.Booleans.{bit}
 use Rattle.lanes.specs.Families.{moved-to}
 
@@ -21,3 +21,4 @@ pub record Moved (count : ℕ) (tops leads old new : List ℕ) (all : ℕ) : Typ
   pub others : (w : ℕ) → count ≤ w → getD new w 0 ≡ getD old w 0
   pub all-has : (w : ℕ) → w < count → (s : ℕ) → bit (getD new w 0) s ≡ true → bit all s ≡ true
   pub all-only : (s : ℕ) → bit all s ≡ true → (w : ℕ) × (w < count) × (bit (getD new w 0) s ≡ true)
+  pub size : length new ≡ length old

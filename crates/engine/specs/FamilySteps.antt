@@ -11,10 +11,6 @@ use Rattle.psl.specs.Proof.Decide.Tells.{any}
 use Rattle.lanes.specs.Families.{word, moved-to}
 use Rattle.engine.specs.Families.{endsIn, leadsIn}
 
--- Where on, the sets of a family that a mask has.
-pub record Within (family mask : ℕ) (on : Bool) (r : ℕ) : Type 0 where
-  pub each : (s : ℕ) → bit r s ≡ bit family s && not (not (bit mask s) && on)
-
 -- The sets of a family that hold no cell of ends.
 pub record Without (family ends r : ℕ) : Type 0 where
   pub each : (s : ℕ) → s < 64 → bit r s ≡ bit family s && not (any 6 (λ l. bit s l && bit ends l))
@@ -27,10 +23,11 @@ pub record Spread (lanes r : ℕ) : Type 0 where
 pub record Led (lanes q r : ℕ) : Type 0 where
   pub each : (l k : ℕ) → l < 7 → k < 8 → bit r (8 * l + k) ≡ bit lanes l && eqb k q
 
--- Byte l of the sets.
+-- The set in byte l.
 abbrev pub setOf : ℕ → ℕ → ℕ
 setOf sets l = sets / 2 ^ (8 * l) % 64
 
+-- The set in byte l has the cells that lane l leads to.
 pub record Leads (R : ℕ → ℕ → Bool) (sets : ℕ) : Type 0 where
   pub each : (l : ℕ) → l < 7 → setOf sets l ≡ word 6 (R l)
 
@@ -59,4 +56,4 @@ pub record OneMoved (w all : ℕ) (tops leads old new : List ℕ) (r : ℕ) : Ty
   pub each : (s : ℕ) → s < 64 → bit (getD new w 0) s ≡ moved-to (endsIn tops w) (leadsIn leads w) (bit (getD tops w 0) 7) (bit (getD old w 0)) s
   pub others : (v : ℕ) → (v ≡ w → ⊥) → getD new v 0 ≡ getD old v 0
   pub all-is : (s : ℕ) → bit r s ≡ bit all s || bit (getD new w 0) s
-  pub size : length new ≡ 32
+  pub size : length new ≡ length old

@@ -2,7 +2,10 @@
 pub mod Reads
 pub mod Truths
 pub mod Properties
+pub mod PropertyVisits
+pub mod PropertyFacts
 pub mod Sides
+pub mod SideSteps
 pub mod Weaks
 pub mod Families
 pub mod FamilySteps
@@ -13,6 +16,16 @@ pub mod NodeView
 pub mod PlanView
 pub mod PlanProperty
 pub mod PlanBooleans
+pub mod PlanSequences
+pub mod PlanSides
+pub mod PlanWeaks
+pub mod PlanCount
 pub mod PlanRows
 pub mod PlanState
 pub mod PlanPass
+pub mod PlanOwners
+pub mod CycleSets
+pub mod CycleBegins
+pub mod CycleRight
+pub mod CycleFlags
+pub mod Cycled

@@ -1,16 +1,14 @@
 -- The rows of left sides and never: which end on a sample, and the cells that they expect next. Lane 7 of the passes.
-use Prim.Native.Nat.{ℕ, suc, _+_, _*_, _≤_, _<_}
+use Prim.Native.Nat.{ℕ, _+_, _≤_, _<_}
 use mathlib.Core.Path.{_≡_}
-use mathlib.Core.Bool.{Bool, true, false, _&&_, _||_}
+use mathlib.Core.Bool.{Bool, true, false}
 use mathlib.Core.List.{List}
-use mathlib.Core.Logic.{_⊎_}
 use lib.ListN.{getD}
 use Rattle.psl.specs.Booleans.{Boolean, bit, holds, sample}
 use Rattle.lanes.specs.Rows.{Row, r-bool, r-then, r-fuse, r-alt, r-star, r-plus, r-left, Has, CellAt}
 use Rattle.lanes.specs.Expected.{Table}
 use Rattle.lanes.specs.UpPass.{Part, operand}
 use Rattle.lanes.specs.Uses.{Use}
-use Rattle.lanes.specs.DownPass.{Work}
 use Rattle.lanes.specs.Ideal.{part-of, whole-work}
 use Rattle.engine.specs.Reads.{kindOf, aOf, bOf}
 
@@ -51,6 +49,10 @@ pub data SideRow (t : List ℕ) (row : ℕ → Row) (booleans sides truth x n : 
 abbrev pub SideRows : List ℕ → (ℕ → Row) → ℕ → ℕ → ℕ → ℕ → Type 0
 SideRows t row booleans sides truth x = (n : ℕ) → bit sides n ≡ true → SideRow t row booleans sides truth x n
 
+-- The words have the cells that are expected at the rows of the set.
+abbrev pub LiveWords : ℕ → (ℕ → Bool → Bool) → ℕ → ℕ → Type 0
+LiveWords sides live a b = (n : ℕ) → bit sides n ≡ true → (f : Bool) → liveIn a b n f ≡ live n f
+
 -- Cells are expected only where cells stand.
 abbrev pub LiveAtCells : (ℕ → Row) → (ℕ → Bool → Bool) → Type 0
 LiveAtCells row live = (n : ℕ) (f : Bool) → live n f ≡ true → CellAt row n f
@@ -63,9 +65,12 @@ SideUsers t row sides = (v : ℕ) → bit sides v ≡ true → kindOf t v < 32 �
 abbrev pub firstPart : (ℕ → Row) → (ℕ → Bool → Bool) → ℕ → ℕ → ℕ → Part
 firstPart row live x n a = operand row live (sample x) (part-of row live (sample x)) n false a
 
+abbrev pub LeftsFound : List ℕ → (ℕ → Row) → (ℕ → Bool → Bool) → ℕ → ℕ → List ℕ → Type 0
+LeftsFound t row live sides x lefts = (n : ℕ) → bit sides n ≡ true → getD lefts n 0 ≡ sideCode (firstPart row live x n (aOf t n))
+
 -- What the upward pass leaves: the first operand's number at each row of the set, and the left sides that end.
 pub record SidesUp (t : List ℕ) (row : ℕ → Row) (live : ℕ → Bool → Bool) (sides x : ℕ) (lefts : List ℕ) (ends early : ℕ) : Type 0 where
-  pub lefts-are : (n : ℕ) → bit sides n ≡ true → getD lefts n 0 ≡ sideCode (firstPart row live x n (aOf t n))
+  pub lefts-are : LeftsFound t row live sides x lefts
   pub ends-are : (n : ℕ) → bit sides n ≡ true → 32 ≤ kindOf t n → bit ends n ≡ firstPart row live x n (aOf t n) .ends 7
   pub early-are : (n : ℕ) → bit sides n ≡ true → 32 ≤ kindOf t n → bit early n ≡ firstPart row live x n (aOf t n) .early
 
@@ -80,4 +85,4 @@ pub record SidesEnter (t : List ℕ) (sides begin held : ℕ) (enter : ℕ → B
 
 -- What the downward pass leaves at the rows of the set: the cells expected next. Elsewhere it sets nothing.
 pub record SidesDown (row : ℕ → Row) (table : Table row) (live : ℕ → Bool → Bool) (sides x : ℕ) (enter : ℕ → Bool) (a b : ℕ) : Type 0 where
-  pub next-is : (n : ℕ) → bit sides n ≡ true → (f : Bool) → liveIn a b n f ≡ whole-work row table live (sample x) enter .after n f
+  pub next-is : LiveWords sides (whole-work row table live (sample x) enter .after) a b

@@ -4,25 +4,32 @@ ghost use Prim.Native.Nat.{_+_, _*_, _<_, _≤_};
 ghost use mathlib.Core.Path.{_≡_};
 ghost use lib.ListN.{getD, length};
 ghost use Rattle.engine.specs.Families.{leadsIn, Moved};
-ghost use Rattle.engine.specs.FamilySteps.{Within, Without, Spread, Led, Leads, setOf, threes, imageOf, imageBy, Walked, Stepped, OneMoved};
-
-// Where on, the sets of a family that a mask has.
-fn within(family: u64, mask: u64, on: bool) -> u64
-    ensures { λ r. ⌜ Within family mask on r ⌝ }
-{
-    if on { family & mask } else { family }
-}
+ghost use Rattle.engine.specs.FamilySteps.{Without, Spread, Led, Leads, setOf, threes, imageOf, imageBy, Walked, Stepped, OneMoved};
 
 // The sets of a family that hold no cell of ends: each mask has the sets without one cell.
 fn without(family: u64, ends: u8) -> u64
     ensures { λ r. ⌜ Without family ends r ⌝ }
 {
-    let no_0 = within(family, 0x5555555555555555, ends % 2 == 1);
-    let no_1 = within(no_0, 0x3333333333333333, ends / 2 % 2 == 1);
-    let no_2 = within(no_1, 0x0f0f0f0f0f0f0f0f, ends / 4 % 2 == 1);
-    let no_3 = within(no_2, 0x00ff00ff00ff00ff, ends / 8 % 2 == 1);
-    let no_4 = within(no_3, 0x0000ffff0000ffff, ends / 16 % 2 == 1);
-    within(no_4, 0x00000000ffffffff, ends / 32 % 2 == 1)
+    let mut left = family;
+    if ends % 2 == 1 {
+        left = left & 0x5555555555555555;
+    }
+    if ends / 2 % 2 == 1 {
+        left = left & 0x3333333333333333;
+    }
+    if ends / 4 % 2 == 1 {
+        left = left & 0x0f0f0f0f0f0f0f0f;
+    }
+    if ends / 8 % 2 == 1 {
+        left = left & 0x00ff00ff00ff00ff;
+    }
+    if ends / 16 % 2 == 1 {
+        left = left & 0x0000ffff0000ffff;
+    }
+    if ends / 32 % 2 == 1 {
+        left = left & 0x00000000ffffffff;
+    }
+    left
 }
 
 // Byte l of the result is bit l of the lanes, of which there are seven.
@@ -63,10 +70,18 @@ fn set(sets: u64, l: u8) -> u8
 }
 
 // Where the sets of three cells lead that lead to x, y, z.
-fn images(x: u8, y: u8, z: u8) -> [u8; 8]
-    ensures { λ r. ⌜ r ≡ threes x y z ⌝ }
+fn images(x: u8, y: u8, z: u8, to: &mut [u8; 8])
+    requires { ⌜ length (now to) ≡ 8 ⌝ }
+    ensures { λ r. ⌜ now (to .exit) ≡ threes x y z ⌝ }
 {
-    [0, x, y, y | x, z, z | x, z | y, z | (y | x)]
+    to[0] = 0;
+    to[1] = x;
+    to[2] = y;
+    to[3] = y | x;
+    to[4] = z;
+    to[5] = z | x;
+    to[6] = z | y;
+    to[7] = z | (y | x);
 }
 
 // Where a set leads, by its cells 0 to 2 and its cells 3 to 5.
@@ -98,8 +113,10 @@ fn moved(family: u64, sets: u64) -> u64
     if family == 0 {
         return 0;
     }
-    let low = images(set(sets, 0), set(sets, 1), set(sets, 2));
-    let high = images(set(sets, 3), set(sets, 4), set(sets, 5));
+    let mut low = [0u8; 8];
+    let mut high = [0u8; 8];
+    images(set(sets, 0), set(sets, 1), set(sets, 2), &mut low);
+    images(set(sets, 3), set(sets, 4), set(sets, 5), &mut high);
     walked(family, &low, &high)
 }
 

@@ -36,10 +36,10 @@ walked-requires c κs = search needs
 returns-2 : tie.Need-returns-2
 returns-2 c =
     let high = c .before .before .before in
-    let low = high .before .before .before .before in
+    let low = high .before .before .before .before .before in
     moved-is _ _ _ _ _ _ _ _ _ _ _ (low .images .ensures) (high .images2 .ensures)
-    (low .before .before .before .set .ensures) (low .before .before .set2 .ensures) (low .before .set3 .ensures)
-    (high .before .before .before .set4 .ensures) (high .before .before .set5 .ensures) (high .before .set6 .ensures) (c .walked .ensures)
+    (low .before .before .before .before .set .ensures) (low .before .before .before .set2 .ensures) (low .before .before .set3 .ensures)
+    (high .before .before .before .before .set4 .ensures) (high .before .before .before .set5 .ensures) (high .before .before .set6 .ensures) (c .walked .ensures)
 
 pub moved-spec : {M : Type 1} → statement M
 moved-spec =

@@ -1,3 +1,4 @@
+use native.Mathlib.Omega.{arith}
 use Rattle.engine.proofs.FamilyMoves.{one-quiet, one-moved}
 use borrow.Author.Tests.{ltb-true}
 use borrow.Author.Needs.{needs}
@@ -14,7 +15,7 @@ element-copy-out-top : tie.Need-element-copy-out-top
 element-copy-out-top c = search needs
 
 returns : tie.Need-returns
-returns c = one-quiet _ _ _ _ _ (c .before .before .before .before .pre .1) (c .before .if1 .taken) (ltb-true _ _ (c .if2 .taken))
+returns c = one-quiet _ _ _ _ _ (c .before .if1 .taken) (ltb-true _ _ (c .if2 .taken))
 
 turned-requires : tie.Need-turned-requires
 turned-requires c κs = search needs
@@ -30,7 +31,7 @@ element-write-families c = search needs
 
 returns-2 : tie.Need-returns-2
 returns-2 c = let s = c .before .before .before .before .before in
-    one-moved (s .args .w) (s .args .all) (s .args .tops .now) (s .args .leads .now) (s .args .families .now) (s .pre .1) _ _ (s .pre .0) (c .before .turned .ensures) (c .family .ensures)
+    one-moved (s .args .w) (s .args .all) (s .args .tops .now) (s .args .leads .now) (s .args .families .now) _ _ (omega (arith, s .pre .0, s .pre .1)) (c .before .turned .ensures) (c .family .ensures)
 
 pub one-spec : {M : Type 1} → statement M
 one-spec =

@@ -1,0 +1,39 @@
+// The fields of a row that the bytes hold, and whether they hold it.
+ghost use mathlib.Core.Path.{_≡_};
+ghost use Rattle.psl.specs.Proof.Decide.Tells.{Tells};
+ghost use Rattle.engine.specs.Reads.{kindOf, aOf, bOf, cOf, Held, Within};
+
+pub(crate) fn kind(table: &[u8], n: u8) -> u8
+    requires { ⌜ Held (now table) n ⌝ }
+    ensures { λ r. ⌜ r ≡ kindOf (now (table .entry)) n ⌝ }
+{
+    table[16 + 4 * (n as usize)]
+}
+
+pub(crate) fn a(table: &[u8], n: u8) -> u8
+    requires { ⌜ Held (now table) n ⌝ }
+    ensures { λ r. ⌜ r ≡ aOf (now (table .entry)) n ⌝ }
+{
+    table[17 + 4 * (n as usize)]
+}
+
+pub(crate) fn b(table: &[u8], n: u8) -> u8
+    requires { ⌜ Held (now table) n ⌝ }
+    ensures { λ r. ⌜ r ≡ bOf (now (table .entry)) n ⌝ }
+{
+    table[18 + 4 * (n as usize)]
+}
+
+pub(crate) fn c(table: &[u8], n: u8) -> u8
+    requires { ⌜ Held (now table) n ⌝ }
+    ensures { λ r. ⌜ r ≡ cOf (now (table .entry)) n ⌝ }
+{
+    table[19 + 4 * (n as usize)]
+}
+
+// Whether the bytes hold the rows of a set: of no rows they do.
+pub(crate) fn covers(table: &[u8], rows: u64) -> bool
+    ensures { λ r. ⌜ Tells (Within (now (table .entry)) rows) r ⌝ }
+{
+    (rows == 0) | (19 + 4 * (words::highest(rows) as usize) < table.len())
+}
