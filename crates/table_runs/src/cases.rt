@@ -2,145 +2,107 @@
 use crate::Tally;
 use crate::accepts;
 use crate::cut;
+use crate::each;
 use crate::refuses;
 use crate::tables::BOOLEANS;
 use crate::tables::DOCUMENT;
 use crate::tables::ladder;
 
-pub fn header_lengths() -> Tally {
+pub fn lengths() -> Tally {
     let mut t = Tally::new();
     // the document's table
     t = accepts(t, DOCUMENT, b"");
     // no bytes
     t = cut(t, DOCUMENT, 0, 1, 0, b"");
-    // fifteen bytes
-    t = cut(t, DOCUMENT, 15, 1, 0, b"");
-    // fifteen bytes whatever they are
+    // fifteen bytes, whatever they are
     t = cut(t, DOCUMENT, 15, 1, 0, b"\x00\x09\x02\x63");
     // sixteen bytes with a right header
     t = cut(t, DOCUMENT, 16, 4, 0, b"");
-    // one byte too many
-    t = cut(t, DOCUMENT, 43, 4, 0, b"");
+    // one byte too many, and layout before rows
+    t = cut(t, DOCUMENT, 43, 4, 0, b"\x10\x00");
     // one byte too few
     t = cut(t, DOCUMENT, 41, 4, 0, b"");
     // total and length agree, and are wrong
     t = cut(t, DOCUMENT, 43, 4, 0, b"\x0c\x2b");
-    // layout before rows
-    t = cut(t, DOCUMENT, 43, 4, 0, b"\x10\x00");
     t
 }
 
-pub fn header_counts() -> Tally {
+pub fn headers() -> Tally {
     let mut t = Tally::new();
-    // version 0
-    t = refuses(t, DOCUMENT, 2, 0, b"\x00\x00");
-    // version 2
-    t = refuses(t, DOCUMENT, 2, 0, b"\x00\x02");
-    // version 257
-    t = refuses(t, DOCUMENT, 2, 0, b"\x01\x01");
+    // version 0, 2, 257
+    t = each(t, 2, 0, b"\x00\x00\x00\x02\x01\x01");
+    // no signals, 33, 3 and a high byte; nodes and properties likewise
+    t = each(
+        t,
+        3,
+        0,
+        b"\x02\x00\x02\x21\x03\x01\x04\x00\x05\x01\x06\x00\x06\x09\x07\x01",
+    );
+    // rows at 17, 16 and a high byte; roots at 37, 36 and a high byte; total one too small, or right modulo 256, 65,536, 16,777,216
+    t = each(
+        t,
+        4,
+        0,
+        b"\x08\x11\x09\x01\x0a\x25\x0b\x01\x0c\x29\x0d\x01\x0e\x01\x0f\x01",
+    );
     // version before counts
     t = refuses(t, DOCUMENT, 2, 0, b"\x00\x02\x02\x00");
-    // no signals
-    t = refuses(t, DOCUMENT, 3, 0, b"\x02\x00");
+    // counts before offsets
+    t = refuses(t, DOCUMENT, 3, 0, b"\x02\x21\x08\x11");
+    t
+}
+
+pub fn limits() -> Tally {
+    let mut t = Tally::new();
     // 32 signals
     t = accepts(t, DOCUMENT, b"\x02\x20");
-    // 33 signals
-    t = refuses(t, DOCUMENT, 3, 0, b"\x02\x21");
-    // 3 signals and a high byte
-    t = refuses(t, DOCUMENT, 3, 0, b"\x03\x01");
-    // no nodes
-    t = refuses(t, DOCUMENT, 3, 0, b"\x04\x00");
-    // 5 nodes and a high byte
-    t = refuses(t, DOCUMENT, 3, 0, b"\x05\x01");
     // 64 nodes
     t = accepts(t, ladder(64, 42), b"");
+    // 8 properties
+    t = cut(t, BOOLEANS, 36, 0, 0, b"\x06\x08\x0c\x24");
     // 65 nodes
     t = refuses(t, ladder(65, 42), 3, 0, b"");
     t
 }
 
-pub fn header_offsets() -> Tally {
-    let mut t = Tally::new();
-    // no properties
-    t = refuses(t, DOCUMENT, 3, 0, b"\x06\x00");
-    // 9 properties
-    t = refuses(t, DOCUMENT, 3, 0, b"\x06\x09");
-    // 3 properties and a high byte
-    t = refuses(t, DOCUMENT, 3, 0, b"\x07\x01");
-    // counts before offsets
-    t = refuses(t, DOCUMENT, 3, 0, b"\x02\x21\x08\x11");
-    // rows at 17
-    t = refuses(t, DOCUMENT, 4, 0, b"\x08\x11");
-    // rows at 16 and a high byte
-    t = refuses(t, DOCUMENT, 4, 0, b"\x09\x01");
-    // roots one too far
-    t = refuses(t, DOCUMENT, 4, 0, b"\x0a\x25");
-    // roots at 36 and a high byte
-    t = refuses(t, DOCUMENT, 4, 0, b"\x0b\x01");
-    // total one too small
-    t = refuses(t, DOCUMENT, 4, 0, b"\x0c\x29");
-    // total right modulo 256
-    t = refuses(t, DOCUMENT, 4, 0, b"\x0d\x01");
-    // total right modulo 65,536
-    t = refuses(t, DOCUMENT, 4, 0, b"\x0e\x01");
-    // total right modulo 16,777,216
-    t = refuses(t, DOCUMENT, 4, 0, b"\x0f\x01");
-    t
-}
-
 pub fn kinds() -> Tally {
     let mut t = Tally::new();
-    // kind 0
-    t = refuses(t, DOCUMENT, 5, 1, b"\x14\x00");
-    // kind 7
-    t = refuses(t, DOCUMENT, 5, 1, b"\x14\x07");
-    // kind 15
-    t = refuses(t, DOCUMENT, 5, 1, b"\x14\x0f");
-    // kind 21
-    t = refuses(t, DOCUMENT, 5, 1, b"\x14\x15");
-    // kind 31
-    t = refuses(t, DOCUMENT, 5, 1, b"\x14\x1f");
-    // kind 43
-    t = refuses(t, DOCUMENT, 5, 1, b"\x14\x2b");
-    // kind 47
-    t = refuses(t, DOCUMENT, 5, 1, b"\x14\x2f");
-    // kind 51
-    t = refuses(t, DOCUMENT, 5, 1, b"\x14\x33");
-    // kind 255
-    t = refuses(t, DOCUMENT, 5, 1, b"\x14\xff");
+    // kinds 0, 7, 15, 21, 31, 43, 47, 51, 255
+    t = each(
+        t,
+        5,
+        1,
+        b"\x14\x00\x14\x07\x14\x0f\x14\x15\x14\x1f\x14\x2b\x14\x2f\x14\x33\x14\xff",
+    );
     // kind 48, its fields not looked at
     t = refuses(t, DOCUMENT, 6, 2, b"\x18\x30\x19\xc8\x1a\xc9\x1b\xca");
     // kind 49, its fields not looked at
     t = refuses(t, DOCUMENT, 6, 2, b"\x18\x31\x19\xc8\x1a\xc9\x1b\xca");
     // kind 50, its fields not looked at
     t = refuses(t, DOCUMENT, 6, 2, b"\x18\x32\x19\xc8\x1a\xc9\x1b\xca");
+    // the lowest row first
+    t = refuses(t, DOCUMENT, 5, 1, b"\x14\x00\x20\x30");
+    // rows before roots
+    t = refuses(t, DOCUMENT, 5, 4, b"\x20\x00\x24\x09");
     t
 }
 
 pub fn fields() -> Tally {
     let mut t = Tally::new();
-    // an operand equal to its own node
-    t = refuses(t, DOCUMENT, 7, 2, b"\x19\x02");
-    // an operand larger than its node
-    t = refuses(t, DOCUMENT, 7, 3, b"\x1d\x04");
-    // a second operand equal to its node
-    t = refuses(t, DOCUMENT, 7, 2, b"\x1a\x02");
+    // signal number S; a signal's field b
+    t = each(t, 7, 0, b"\x11\x03\x12\x01");
+    // a signal's field c; true with field a
+    t = each(t, 7, 1, b"\x17\x01\x14\x01");
+    // an operand equal to its own node, in field a and b; until's field c
+    t = each(t, 7, 2, b"\x19\x02\x1a\x02\x1b\x01");
+    // an operand larger than its node; always with field b
+    t = each(t, 7, 3, b"\x1d\x04\x1e\x01");
     // the last signal
     t = accepts(t, DOCUMENT, b"\x11\x02");
-    // signal number S
-    t = refuses(t, DOCUMENT, 7, 0, b"\x11\x03");
-    // field b of a signal
-    t = refuses(t, DOCUMENT, 7, 0, b"\x12\x01");
-    // field c of a signal
-    t = refuses(t, DOCUMENT, 7, 1, b"\x17\x01");
-    // field a of true
-    t = refuses(t, DOCUMENT, 7, 1, b"\x14\x01");
     // true with zero fields
     t = accepts(t, DOCUMENT, b"\x14\x01\x15\x00");
-    // field c of until
-    t = refuses(t, DOCUMENT, 7, 2, b"\x1b\x01");
-    // field b of always
-    t = refuses(t, DOCUMENT, 7, 3, b"\x1e\x01");
+    // a row's 7 before the next row's 6
+    t = refuses(t, DOCUMENT, 7, 3, b"\x1e\x01\x20\x30");
     t
 }
 
@@ -160,12 +122,6 @@ pub fn classes() -> Tally {
     t = refuses(t, DOCUMENT, 7, 4, b"\x20\x24\x21\x02\x22\x04");
     // a row's 8 before the next row's 5
     t = refuses(t, DOCUMENT, 8, 3, b"\x1c\x20\x1d\x02\x20\x00");
-    // a row's 7 before the next row's 6
-    t = refuses(t, DOCUMENT, 7, 3, b"\x1e\x01\x20\x30");
-    // the lowest row first
-    t = refuses(t, DOCUMENT, 5, 1, b"\x14\x00\x20\x30");
-    // rows before roots
-    t = refuses(t, DOCUMENT, 5, 4, b"\x20\x00\x24\x09");
     t
 }
 
@@ -212,6 +168,11 @@ pub fn uses() -> Tally {
     t = refuses(t, DOCUMENT, 10, 2, b"\x1d\x02");
     // the lowest of two
     t = refuses(t, DOCUMENT, 10, 3, b"\x26\x00\x28\x00");
+    t
+}
+
+pub fn sequence_uses() -> Tally {
+    let mut t = Tally::new();
     // a sequence that nothing uses
     t = refuses(t, ladder(7, 42), 10, 5, b"\x29\x00");
     // a sequence by two rows, before one by none
@@ -237,6 +198,11 @@ pub fn cells() -> Tally {
     t = accepts(t, ladder(8, 32), b"\x1c\x13");
     // [+] adds none
     t = accepts(t, ladder(8, 32), b"\x28\x14");
+    t
+}
+
+pub fn many_cells() -> Tally {
+    let mut t = Tally::new();
     // never of 63 cells
     t = accepts(t, ladder(64, 42), b"");
     // a left side of 63 cells

@@ -74,7 +74,7 @@ fn is_right_up_to(table: &[u8], length: usize, number: u8, place: u32) -> bool {
 
 // The first bytes of a table that is changed are refused so, or accepted where the number is 0.
 pub fn cut(t: Tally, base: u16, length: usize, number: u8, place: u32, changes: &[u8]) -> Tally {
-    let mut room = [0u8; tables::ROOM];
+    let mut room = io::buffer();
     let table: &mut [u8] = &mut room;
     tables::put_base(&mut *table, base);
     put_changes(&mut *table, changes);
@@ -89,6 +89,27 @@ pub fn accepts(t: Tally, base: u16, changes: &[u8]) -> Tally {
     refuses(t, base, 0, 0, changes)
 }
 
+// Each change by itself has the document's table refused so.
+pub fn each(t: Tally, number: u8, place: u32, changes: &[u8]) -> Tally {
+    let mut t = t;
+    let mut i: usize = 0;
+    while i < changes.len() {
+        t = one_of(t, number, place, changes, i);
+        i += 2;
+    }
+    t
+}
+
+fn one_of(t: Tally, number: u8, place: u32, changes: &[u8], i: usize) -> Tally {
+    if i < changes.len() {
+        let end = i + 2;
+        if end <= changes.len() {
+            return refuses(t, tables::DOCUMENT, number, place, &changes[i..end]);
+        }
+    }
+    t
+}
+
 fn tell(name: &[u8], t: Tally) -> Tally {
     say(name);
     io::print_decimal(STDOUT_FILENO, t.cases as u64);
@@ -99,8 +120,8 @@ fn tell(name: &[u8], t: Tally) -> Tally {
 }
 
 fn header() -> Tally {
-    let first = cases::header_lengths().and(cases::header_counts());
-    tell(b"header, 1 to 4: ", first.and(cases::header_offsets()))
+    let first = cases::lengths().and(cases::headers());
+    tell(b"header, 1 to 4: ", first.and(cases::limits()))
 }
 
 fn rows() -> Tally {
@@ -108,9 +129,16 @@ fn rows() -> Tally {
     tell(b"rows, 5 to 8: ", first.and(cases::classes()))
 }
 
+fn uses() -> Tally {
+    tell(b"uses, 10: ", cases::uses().and(cases::sequence_uses()))
+}
+
+fn cells() -> Tally {
+    tell(b"cells, 11: ", cases::cells().and(cases::many_cells()))
+}
+
 fn main() {
     let first = header().and(rows());
-    let second = tell(b"roots, 9: ", cases::roots()).and(tell(b"uses, 10: ", cases::uses()));
-    let third = tell(b"cells, 11: ", cases::cells());
-    tell(b"table: ", first.and(second).and(third));
+    let second = tell(b"roots, 9: ", cases::roots()).and(uses());
+    tell(b"table: ", first.and(second).and(cells()));
 }

@@ -1,8 +1,5 @@
 // The tables that the cases change.
 
-// Room for a table of 65 nodes.
-pub const ROOM: usize = 288;
-
 // A table by its number: the document's, one signal that is the root of two properties, or else a ladder.
 pub const DOCUMENT: u16 = 0;
 
