@@ -12,3 +12,13 @@ pub mod ReachedLaws
 pub mod PlannedLaws
 pub mod FamilyLaws
 pub mod FamilyMoves
+pub mod WeakBits
+pub mod WeakUp
+pub mod WeakUse
+pub mod WeakNumbers
+pub mod WeakWork
+pub mod WeakSteps
+pub mod WeakLoop
+pub mod AnyOf
+pub mod CycleLaws
+pub mod CyclePasses

@@ -1,17 +1,16 @@
 -- The two flags of a cycle: broken where a row breaks by itself, quiet where nothing is kept.
-use Prim.Native.Nat.{ℕ, zero, suc, _+_, _*_, _≤_, _<_, _^_}
+use Prim.Native.Nat.{ℕ, suc, _<_, _^_}
 use native.Mathlib.Omega.{arith}
-use native.Mathlib.Decide.{decLt, decLe}
+use native.Mathlib.Decide.{decLe}
 use mathlib.Core.Path.{_≡_, refl, sym, _∙_, ap, ap₂, subst}
 use mathlib.Core.Bool.{Bool, true, false, not, _&&_, _||_}
 use mathlib.Core.List.{List}
 use mathlib.Core.Logic.{_⊎_, inl, inr, ⊎-elim}
-use lib.Dec.{T, eqb}
-use lib.ListN.{getD}
-use Rattle.psl.specs.Booleans.{Boolean, constant, bit, holds, sample}
+use lib.Dec.{T}
+use Rattle.psl.specs.Booleans.{Boolean, bit, holds, sample}
 use Rattle.psl.specs.Sequences.{Sequence}
-use Rattle.psl.specs.Proof.Decide.Tells.{Tells, any, tells-any, tells-and, tells-or, tells-value, tells-not-value, tells-eq, tells-true, true-tells, tells-no, tells-iff}
-use Rattle.psl.specs.Proof.Model.Nodes.{Node, n-bool, n-weak, n-never}
+use Rattle.psl.specs.Proof.Decide.Tells.{Tells, any, tells-any, tells-and, tells-or, tells-value, tells-not-value, tells-true, tells-no, tells-iff}
+use Rattle.psl.specs.Proof.Model.Nodes.{Node, n-never}
 use Rattle.psl.specs.Proof.Model.Step.{keeps}
 use Rattle.psl.specs.Proof.Model.Judge.{breaksAt}
 use Rattle.table.specs.Choice.{pick}
@@ -21,7 +20,7 @@ use Rattle.table.specs.declared.Counts.{Counts}
 use Rattle.accepted.specs.Rows.{shapeOf}
 use Rattle.accepted.specs.WeakCells.{weak-kind}
 use Rattle.lanes.specs.Bits.{tells-same}
-use Rattle.lanes.specs.Rows.{Row, r-weak, Lit}
+use Rattle.lanes.specs.Rows.{Row, r-weak}
 use Rattle.lanes.specs.Expected.{Table, sequence-of}
 use Rattle.lanes.specs.State.{Kept}
 use Rattle.lanes.specs.StateVerdict.{Quiet}
@@ -47,6 +46,14 @@ clash e h = subst T (sym h ∙ e) tt
 and-no : (b : Bool) → b && false ≡ true → ⊥
 and-no true e = clash refl e
 and-no false e = clash refl e
+
+-- A Boolean that begins and fails.
+abbrev pub BooleanFails : ℕ → ℕ → ℕ → Type 0
+BooleanFails begin booleans truth = (n : ℕ) × (bit begin n ≡ true) × (bit booleans n ≡ true) × (bit truth n ≡ false)
+
+-- Nothing is expected.
+abbrev pub NoWord : ℕ → ℕ → ℕ → ℕ → Type 0
+NoWord held a b all = (held ≡ 0) × (a ≡ 0) × (b ≡ 0) × (all ≡ 0)
 
 module _ (t : List ℕ) (c : Counts) (z : Subset t c) (root booleans sides weaks : ℕ) (p : Planned t root booleans sides weaks) (root-low : root < c .nodes)
     (k : Kept) (time x : ℕ) where
@@ -74,10 +81,6 @@ module _ (t : List ℕ) (c : Counts) (z : Subset t c) (root booleans sides weaks
   module _ (begin truth all : ℕ) (begins-are : (n : ℕ) → bit begin n ≡ begun n) (right : Truth booleans (booleanAt t) x truth)
       (some-set : bit all 0 ≡ true → (n : ℕ) × (bit weaks n ≡ true) × (kindOf t n ≡ 32) × (next .sets n 0 ≡ true))
       (set-in-all : (n : ℕ) → bit weaks n ≡ true → kindOf t n ≡ 32 → next .sets n 0 ≡ true → bit all 0 ≡ true) where
-    -- a Boolean that begins and fails
-    abbrev pub BooleanFails : Type 0
-    BooleanFails = (n : ℕ) × (bit begin n ≡ true) × (bit booleans n ≡ true) × (bit truth n ≡ false)
-
     abbrev Breaks : Type 0
     Breaks = (n : ℕ) × (n < suc root) × (broke row rows node root k time x n ≡ true)
 
@@ -98,7 +101,7 @@ module _ (t : List ℕ) (c : Counts) (z : Subset t c) (root booleans sides weaks
     never-breaks : NeverHit node hits (bit begin) → Breaks
     never-breaks (n, r, q, h) = (n, up-to n (never-reached n r q), breaks-as n q ∙ ap (hits n) (sym (begins-are n)) ∙ h)
 
-    boolean-breaks : BooleanFails → Breaks
+    boolean-breaks : BooleanFails begin booleans truth → Breaks
     boolean-breaks (n, b, i, f) =
         let h = is-boolean t c z root booleans sides weaks p root-low n i in (
           n,
@@ -113,7 +116,7 @@ module _ (t : List ℕ) (c : Counts) (z : Subset t c) (root booleans sides weaks
         (h .0, up-to (h .0) r, breaks-as (h .0) (W.at t c z root booleans sides weaks p root-low 32 (h .0) r (h .2)) ∙ h .3)
 
     abbrev Ways : Type 0
-    Ways = (NeverHit node hits (bit begin) ⊎ BooleanFails) ⊎ (bit all 0 ≡ true)
+    Ways = (NeverHit node hits (bit begin) ⊎ BooleanFails begin booleans truth) ⊎ (bit all 0 ≡ true)
 
     broken-ways : Breaks → Ways
     unfolding nodeBy pick
@@ -148,7 +151,7 @@ module _ (t : List ℕ) (c : Counts) (z : Subset t c) (root booleans sides weaks
         go false r = silent (node-out t c z (sequence-of row) (p .reached) low n r) (and-no (begun n))
 
     -- BROKEN
-    pub broken-is : {never fails : Bool} → Tells (NeverHit node hits (bit begin)) never → Tells BooleanFails fails
+    pub broken-is : {never fails : Bool} → Tells (NeverHit node hits (bit begin)) never → Tells (BooleanFails begin booleans truth) fails
         → (never || fails) || bit all 0 ≡ any (suc root) (broke row rows node root k time x)
     broken-is tn tf = tells-same (tells-or (tells-or tn tf) (tells-value (bit all 0))) (tells-any _ _ (λ n. tells-value (broke row rows node root k time x n)) (suc root))
         (⊎-elim (⊎-elim never-breaks boolean-breaks) weak-breaks) broken-ways
@@ -175,13 +178,10 @@ module _ (t : List ℕ) (c : Counts) (z : Subset t c) (root booleans sides weaks
       (held-are : (n : ℕ) → bit held n ≡ next .held n) (live-are : (n : ℕ) (f : Bool) → liveIn a b n f ≡ next .live n f)
       (some-set : (s : ℕ) → bit all s ≡ true → (n : ℕ) × (bit weaks n ≡ true) × (kindOf t n ≡ 32) × (s < 64 → next .sets n s ≡ true))
       (set-in-all : (n : ℕ) → bit weaks n ≡ true → kindOf t n ≡ 32 → (s : ℕ) → s < 64 → next .sets n s ≡ true → bit all s ≡ true) where
-    abbrev pub NoWord : Type 0
-    NoWord = (held ≡ 0) × (a ≡ 0) × (b ≡ 0) × (all ≡ 0)
-
     zero-bit : (w n : ℕ) → w ≡ 0 → bit w n ≡ false
     zero-bit w n e = ap (λ (v : ℕ). bit v n) e ∙ bit-none n
 
-    none-quiet : NoWord → Quiet row root next
+    none-quiet : NoWord held a b all → Quiet row root next
     none-quiet (h, i, j, l) = record {
       none-held = λ n m. sym (held-are n) ∙ zero-bit held n h;
       none-live = λ lit. dark (lit .0) (lit .1) (lit .2);
@@ -192,7 +192,7 @@ module _ (t : List ℕ) (c : Counts) (z : Subset t c) (root booleans sides weaks
         dark m false e = clash (zero-bit a m i) (live-are m false ∙ e)
         dark m true e = clash (zero-bit b m j) (live-are m true ∙ e)
 
-    quiet-none : Quiet row root next → NoWord
+    quiet-none : Quiet row root next → NoWord held a b all
     unfolding shapeOf pick
     quiet-none q = (
       no-bits 64 held held-low (λ n l. held-are n ∙ elim (decLe n root) [ yes m ↦ q .none-held n m | no m ↦ held-out n (omega arith) ]),
@@ -203,5 +203,5 @@ module _ (t : List ℕ) (c : Counts) (z : Subset t c) (root booleans sides weaks
     )
 
     -- QUIET
-    pub quiet-is : {quiet : Bool} → Tells NoWord quiet → Tells (Quiet row root next) quiet
+    pub quiet-is : {quiet : Bool} → Tells (NoWord held a b all) quiet → Tells (Quiet row root next) quiet
     quiet-is tq = tells-iff none-quiet quiet-none tq

@@ -1,49 +1,40 @@
 -- What a cycle leaves in its words represents what the cycle as a function keeps; and its two flags tell broken and quiet.
-use Prim.Native.Nat.{ℕ, zero, suc, _+_, _*_, _≤_, _<_, _^_}
+use Prim.Native.Nat.{ℕ, _<_}
 use native.Mathlib.Omega.{arith}
-use native.Mathlib.Decide.{decLt, decLe}
-use mathlib.Core.Path.{_≡_, refl, sym, _∙_, ap, ap₂, subst}
-use mathlib.Core.Bool.{Bool, true, false, not, _&&_, _||_}
+use native.Mathlib.Decide.{decLt}
+use mathlib.Core.Path.{_≡_, refl, sym, _∙_, ap, subst}
+use mathlib.Core.Bool.{Bool, true, false}
 use mathlib.Core.List.{List}
-use mathlib.Core.Logic.{_⊎_, inl, inr, ⊎-elim}
-use lib.Dec.{T, eqb}
-use lib.ListN.{getD}
-use Rattle.psl.specs.Booleans.{Boolean, bit, holds, sample}
-use Rattle.psl.specs.Sequences.{Sequence}
-use Rattle.psl.specs.Proof.Decide.Tells.{Tells, does, doesnt, any, tells-any, tells-and, tells-or, tells-not, tells-value, tells-not-value, tells-eq, tells-true, true-tells, tells-no, tells-iff}
-use Rattle.psl.specs.Proof.Model.Nodes.{Node, n-bool, n-weak, n-never}
-use Rattle.psl.specs.Proof.Model.Judge.{breaksAt}
+use lib.Dec.{T}
+use lib.ListN.{getD, length}
+use Rattle.psl.specs.Booleans.{bit, sample}
+use Rattle.psl.specs.Proof.Decide.Tells.{tells-value, tells-no}
+use Rattle.psl.specs.Proof.Model.Nodes.{Node}
 use Rattle.table.specs.Choice.{pick}
-use Rattle.table.specs.Trees.{booleanAt}
 use Rattle.table.specs.Subset.{Subset}
 use Rattle.table.specs.declared.Counts.{Counts}
 use Rattle.accepted.specs.Rows.{shapeOf}
-use Rattle.lanes.specs.Bits.{tells-same}
-use Rattle.lanes.specs.Rows.{Row, r-weak, Lit}
-use Rattle.lanes.specs.Expected.{Table, sequence-of}
+use Rattle.lanes.specs.Rows.{Row}
+use Rattle.lanes.specs.Expected.{Table}
 use Rattle.lanes.specs.State.{Kept}
-use Rattle.lanes.specs.StateVerdict.{Quiet}
-use Rattle.lanes.specs.Cycle.{hit, begins, enters, held-next, work, sets-by, sets-next, kept-next, broke}
+use Rattle.lanes.specs.Cycle.{enters, work, sets-by, sets-next, kept-next}
 use Rattle.words.specs.Bits.{bit-none}
-use Rattle.engine.specs.Reads.{kindOf, aOf}
+use Rattle.engine.specs.Reads.{kindOf}
 use Rattle.engine.specs.Planned.{Planned}
-use Rattle.engine.specs.Truths.{Truth, OnlyIn}
-use Rattle.engine.specs.Properties.{NeverHit, Passed}
+use Rattle.engine.specs.Truths.{OnlyIn}
 use Rattle.engine.specs.Sides.{liveIn, SidesDown}
 use Rattle.engine.specs.Weaks.{weaksAbove, weakNumber, WeakLanes}
 use Rattle.engine.specs.Families.{Moved}
-use Rattle.engine.specs.NodeView.{KindCase, a-boolean, a-sequence, k-weak, k-both, k-next, k-if, k-implies, k-or, k-always, k-until, k-suffix, k-suffix-next, k-never, nodeBy, case-of, node-out, node-boolean, node-sequence}
 use Rattle.engine.specs.PlanView as W
-use Rattle.engine.specs.PlanBooleans.{is-boolean, boolean-is}
 use Rattle.engine.specs.PlanOwners.{after-in-sides}
-use Rattle.engine.specs.CycleSets.{moved-same, moved-small, number-below, number-of}
-use Rattle.engine.specs.CycleBegins.{begins-are, held-are, weak-enters}
+use Rattle.engine.specs.CycleSets.{moved-same, number-below, number-of}
 
 -- The words and families of a monitor have what is kept.
 pub record Represented (t : List ℕ) (weaks : ℕ) (k : Kept) (held live-a live-b : ℕ) (families : List ℕ) : Type 0 where
   pub held-is : (n : ℕ) → bit held n ≡ k .held n
   pub live-is : (n : ℕ) (f : Bool) → liveIn live-a live-b n f ≡ k .live n f
   pub sets-are : (n : ℕ) → bit weaks n ≡ true → kindOf t n ≡ 32 → (s : ℕ) → s < 64 → bit (getD families (weakNumber t weaks n) 0) s ≡ k .sets n s
+  pub size : length families ≡ 32
   -- a family of no weak sequence is empty
   pub spare : (w : ℕ) → ((n : ℕ) → bit weaks n ≡ true → kindOf t n ≡ 32 → ¬ (weakNumber t weaks n ≡ w)) → getD families w 0 ≡ 0
 
@@ -53,6 +44,7 @@ pub record SetsLeft (t : List ℕ) (weaks : ℕ) (next : Kept) (old new : List �
   pub some-set : (s : ℕ) → bit all s ≡ true → (n : ℕ) × (bit weaks n ≡ true) × (kindOf t n ≡ 32) × (s < 64 → next .sets n s ≡ true)
   pub set-in-all : (n : ℕ) → bit weaks n ≡ true → kindOf t n ≡ 32 → (s : ℕ) → s < 64 → next .sets n s ≡ true → bit all s ≡ true
   pub spare : (w : ℕ) → ((n : ℕ) → bit weaks n ≡ true → kindOf t n ≡ 32 → ¬ (weakNumber t weaks n ≡ w)) → getD new w 0 ≡ getD old w 0
+  pub size : length new ≡ length old
 
 module _ (t : List ℕ) (c : Counts) (z : Subset t c) (root booleans sides weaks : ℕ) (p : Planned t root booleans sides weaks) (root-low : root < c .nodes)
     (k : Kept) (time x : ℕ) where
@@ -131,7 +123,7 @@ module _ (t : List ℕ) (c : Counts) (z : Subset t c) (root booleans sides weaks
 
     -- WHAT THE FAMILIES hold after the sample
     pub sets-left : SetsLeft t weaks next old new all
-    sets-left = record { sets-new = sets-new; some-set = some-set; set-in-all = set-in-all; spare = spare-stays }
+    sets-left = record { sets-new = sets-new; some-set = some-set; set-in-all = set-in-all; spare = spare-stays; size = moved .size }
 
   -- where there is no weak sequence nothing is left
   pub no-sets : (families : List ℕ) → weaks ≡ 0 → SetsLeft t weaks next families families 0
@@ -140,6 +132,7 @@ module _ (t : List ℕ) (c : Counts) (z : Subset t c) (root booleans sides weaks
     some-set = λ s h. absurd (subst T (sym h ∙ bit-none s) tt);
     set-in-all = λ n w q. absurd (none n w);
     spare = λ w f. refl;
+    size = refl;
   }
     where
       none : (n : ℕ) → bit weaks n ≡ true → ⊥

@@ -2,7 +2,7 @@
 use Prim.Native.Nat.{ℕ, suc, _<_, _^_}
 use native.Mathlib.Omega.{arith}
 use mathlib.Core.Path.{_≡_, _∙_}
-use mathlib.Core.Bool.{Bool, true, false, _&&_, _||_}
+use mathlib.Core.Bool.{Bool, true, _&&_, _||_}
 use mathlib.Core.List.{List}
 use lib.Dec.{eqb}
 use Rattle.psl.specs.Booleans.{bit}
@@ -22,11 +22,19 @@ use Rattle.engine.specs.Properties.{Passed}
 use Rattle.engine.specs.Sides.{liveIn, SidesDown}
 use Rattle.engine.specs.PlanView as W
 use Rattle.engine.specs.PlanProperty.{Proper}
-use Rattle.engine.specs.Reads.{kindOf}
+use Rattle.engine.specs.Reads.{kindOf, Within}
 use Rattle.engine.specs.PlanState.{InPlace}
 use Rattle.engine.specs.CycleBegins.{begins-are, held-are}
 use Rattle.engine.specs.CycleRight.{Represented, SetsLeft, live-next}
 use Rattle.engine.specs.CycleFlags as Flags
+
+-- The bytes hold the rows of the plan, those held, and the root at the first cycle.
+pub record Covered (t : List ℕ) (booleans sides weaks first held : ℕ) : Type 0 where
+  pub booleans-held : Within t booleans
+  pub sides-held : Within t sides
+  pub weaks-held : Within t weaks
+  pub first-held : Within t first
+  pub held-held : Within t held
 
 -- A property as it stands before a sample: the table is accepted, the words are its plan, and what is kept is represented.
 pub record Standing (t : List ℕ) (root booleans sides weaks first held live-a live-b : ℕ) (families : List ℕ) : Type 0 where
@@ -82,6 +90,7 @@ module _ {t : List ℕ} {root booleans sides weaks first held live-a live-b : �
       held-is = held-next-is;
       live-is = live-next-is;
       sets-are = sets .sets-new;
+      size = sets .size ∙ s .represented .size;
       spare = λ w none. sets .spare w none ∙ s .represented .spare w none;
     }
 
@@ -94,8 +103,8 @@ module _ {t : List ℕ} {root booleans sides weaks first held live-a live-b : �
     first-in-all : (n : ℕ) → bit weaks n ≡ true → kindOf t n ≡ 32 → nextOf x .sets n 0 ≡ true → bit all 0 ≡ true
     first-in-all n i k e = sets .set-in-all n i k 0 (omega arith) e
 
-    pub cycled : Tells ((n : ℕ) × (bit begin n ≡ true) × (bit booleans n ≡ true) × (bit truth n ≡ false)) fails
-        → Tells ((held′ ≡ 0) × (a ≡ 0) × (b ≡ 0) × (all ≡ 0)) quiet
+    pub cycled : Tells (Flags.BooleanFails begin booleans truth) fails
+        → Tells (Flags.NoWord held′ a b all) quiet
         → Cycled x held′ a b families′ ((never || fails) || bit all 0) quiet
     cycled tf tq = record {
       represents = new-represented;

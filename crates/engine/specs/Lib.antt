@@ -3,10 +3,12 @@ pub mod Reads
 pub mod Truths
 pub mod Properties
 pub mod PropertyVisits
-pub mod PropertyFacts
 pub mod Sides
 pub mod SideSteps
 pub mod Weaks
+pub mod WeakParts
+pub mod WeakUses
+pub mod WeakPass
 pub mod Families
 pub mod FamilySteps
 pub mod Reached
@@ -25,6 +27,7 @@ pub mod PlanState
 pub mod PlanPass
 pub mod PlanOwners
 pub mod CycleSets
+pub mod CycleWeaks
 pub mod CycleBegins
 pub mod CycleRight
 pub mod CycleFlags

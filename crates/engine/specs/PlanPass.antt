@@ -1,33 +1,30 @@
 -- On each sample the property rows, what is kept and the left sides that end are what the pass over the property rows asks for.
-use Prim.Native.Nat.{ℕ, suc, _≤_, _<_}
+use Prim.Native.Nat.{ℕ, _≤_, _<_}
 use native.Mathlib.Omega.{arith}
 use native.Mathlib.Decide.{decLt}
 use mathlib.Core.Path.{_≡_, refl, sym, _∙_, ap, ap₂, subst}
 use mathlib.Core.Bool.{Bool, true, false, not, _&&_, _||_}
 use mathlib.Core.List.{List}
-use mathlib.Core.Logic.{_⊎_, inl, inr, ⊎-elim}
-use lib.Dec.{T, eqb, ltb, leb}
+use mathlib.Core.Logic.{⊎-elim}
+use lib.Dec.{T, eqb, leb}
 use lib.Bits.{bitOr}
 use Rattle.psl.specs.Booleans.{Boolean, bit, holds, sample}
-use Rattle.psl.specs.Proof.Decide.Tells.{Tells, does, doesnt, tells-lt, tells-eq, tells-and, tells-value, tells-true, true-tells, tells-no, tells-iff}
-use Rattle.psl.specs.Proof.Model.Nodes.{Node, n-bool, n-weak, n-never, n-suffix, n-suffix-next}
+use Rattle.psl.specs.Proof.Decide.Tells.{tells-lt, tells-eq, tells-and, tells-value, tells-true, true-tells, tells-no}
+use Rattle.psl.specs.Proof.Model.Nodes.{Node}
 use Rattle.psl.specs.Proof.Model.Monitor as M
 use Rattle.table.specs.Choice.{pick}
-use Rattle.table.specs.Kinds.{fieldsOf, takesOf}
 use Rattle.table.specs.Trees.{booleanAt}
-use Rattle.table.specs.Subset.{Subset, kindAt, Field, field-a, holdsIn, valueAt, IsOperand}
+use Rattle.table.specs.Subset.{Subset}
 use Rattle.table.specs.declared.Counts.{Counts}
 use Rattle.accepted.specs.Rows.{shapeOf, made}
 use Rattle.lanes.specs.Rows.{Row, r-bool, r-left}
 use Rattle.lanes.specs.Expected.{Table, sequence-of}
 use Rattle.lanes.specs.UpPass.{Part, operand, operand-by, cell-part}
 use Rattle.lanes.specs.Ideal.{part-of}
-use Rattle.lanes.specs.Uses.{ended-lanes}
-use Rattle.lanes.specs.DownPass.{left-use}
 use Rattle.lanes.specs.State.{Kept, entered}
 use Rattle.lanes.specs.Cycle.{hit, hit-by}
-use Rattle.engine.specs.Reads.{kindOf, aOf, bOf, cOf}
-use Rattle.engine.specs.Planned.{Planned, InSequence, OverLeft}
+use Rattle.engine.specs.Reads.{kindOf, aOf, bOf}
+use Rattle.engine.specs.Planned.{Planned, OverLeft}
 use Rattle.engine.specs.Truths.{Truth, OnlyIn, BooleanRow, reads-true, reads-false, reads-signal, reads-not, reads-and, reads-or}
 use Rattle.engine.specs.Sides.{SidesUp, OverSides, firstPart}
 use Rattle.engine.specs.Properties.{Inert, inert-boolean, inert-weak, Keeping, PropertyRows}
@@ -87,6 +84,14 @@ module _ (t : List ℕ) (c : Counts) (z : Subset t c) (root booleans sides weaks
 
   pub left-operand : (n : ℕ) → p .reached n ≡ true → OverLeft t n → p .reached (aOf t n) ≡ true
   left-operand n e o = W.operands-in t c z root booleans sides weaks p root-low n false (aOf t n) e (rw (sym (W.row-is t c z root booleans sides weaks p root-low n e) ∙ row-left n e o) refl)
+
+  -- a node that can stay held is reached, and no row of a sequence
+  pub keeping-proper : (n : ℕ) → Keeping (node n) → inside n ≡ true
+  keeping-proper n h = go (inside n) refl
+    where
+      go : (b : Bool) → inside n ≡ b → inside n ≡ true
+      go true e = e
+      go false e = absurd (not-inert (beyond t c z root booleans sides weaks p root-low n e) h)
 
   module _ (k : Kept) (place : InPlace row node k) (time x truth : ℕ) (right : Truth booleans (booleanAt t) x truth) (only : OnlyIn booleans truth)
       (ends early : ℕ) (lefts : List ℕ) (up : SidesUp t row (k .live) sides x lefts ends early) (ends-over : OverSides t sides ends) (early-over : OverSides t sides early) where
@@ -148,13 +153,6 @@ module _ (t : List ℕ) (c : Counts) (z : Subset t c) (root booleans sides weaks
 
     left-proper : (n : ℕ) → p .reached n ≡ true → OverLeft t n → inside n ≡ true
     left-proper n e o = is-proper t c z root booleans sides weaks p root-low n e (λ h. omega (arith, h .1, o .from))
-
-    keeping-proper : (n : ℕ) → Keeping (node n) → inside n ≡ true
-    keeping-proper n h = go (inside n) refl
-      where
-        go : (b : Bool) → inside n ≡ b → inside n ≡ true
-        go true e = e
-        go false e = absurd (not-inert (beyond t c z root booleans sides weaks p root-low n e) h)
 
     over : (n : ℕ) → inside n ≡ true → 40 ≤ kindOf t n → (p .reached n ≡ true) × OverLeft t n
     over n e l = let h = proper-is t c z root booleans sides weaks p root-low n e in (h .0, record { from = l; upto = high (case-of t c z (sequence-of row) (p .reached) low n (h .0)) })
