@@ -1,0 +1,80 @@
+-- A property that goes on: its words are what the cycles so far have kept. Nothing here has to be believed.
+use Prim.Native.Nat.{ℕ, zero, suc, _≤_, _<_}
+use native.Mathlib.Omega.{arith}
+use mathlib.Core.Path.{_≡_, refl, sym, _∙_, ap, subst}
+use mathlib.Core.Bool.{Bool, true, false, _&&_}
+use mathlib.Core.List.{List, [], _∷_, _++_}
+use lib.Dec.{eqb}
+use lib.ListN.{length, take}
+use Rattle.psl.specs.Booleans.{bit}
+use Rattle.psl.specs.Properties.{Property, Breaks, Secures}
+use Rattle.psl.specs.Verdicts.{Verdict, broken, settled, pending, Right, is-pending}
+use Rattle.psl.specs.Laws.{empty-breaks-nothing, empty-secures-nothing}
+use Rattle.psl.specs.Proof.Model.Verdicts.{judged}
+use Rattle.psl.specs.Proof.Model.Nodes.{propAt}
+use Rattle.table.specs.Trees.{propertyAt}
+use Rattle.table.specs.Subset.{Subset}
+use Rattle.table.specs.declared.Counts.{Counts}
+use Rattle.lanes.specs.State.{Kept}
+use Rattle.lanes.specs.Cycle.{Holds, holds-next, right-next}
+use Rattle.engine.specs.Planned.{Planned}
+use Rattle.engine.specs.PlanView as W
+use Rattle.engine.specs.PlanProperty.{Proper, root-property}
+use Rattle.engine.specs.PlanState.{InPlace, next-in-place}
+use Rattle.engine.specs.CycleRight.{Represented}
+use Rattle.engine.specs.Cycled.{Standing, nextOf, Cycled}
+
+module _ (t : List ℕ) (root booleans sides weaks : ℕ) where
+  pub record Goes (v : List ℕ) (held live-a live-b : ℕ) (families : List ℕ) : Type 0 where
+    pub counts : Counts
+    pub subset : Subset t counts
+    pub plan : Planned t root booleans sides weaks
+    pub root-low : root < counts .nodes
+    pub root-proper : Proper t counts subset root booleans sides weaks plan root-low root
+    pub kept : Kept
+    pub in-place : InPlace (W.row t counts subset root booleans sides weaks plan root-low) (W.node t counts subset root booleans sides weaks plan root-low) kept
+    pub represented : Represented t weaks kept held live-a live-b families
+    pub holds : Holds (W.row t counts subset root booleans sides weaks plan root-low) (W.row-table t counts subset root booleans sides weaks plan root-low)
+        (W.node t counts subset root booleans sides weaks plan root-low) (W.shape t counts subset root booleans sides weaks plan root-low)
+        (W.down t counts subset root booleans sides weaks plan root-low) root (W.top t counts subset root booleans sides weaks plan root-low) v kept
+
+module _ {t : List ℕ} {root booleans sides weaks : ℕ} {v : List ℕ} {held live-a live-b : ℕ} {families : List ℕ} (g : Goes t root booleans sides weaks v held live-a live-b families)
+    (first : ℕ) (first-is : (n : ℕ) → bit first n ≡ eqb n root && eqb (length v) 0) where
+  -- the property as it stands before the next sample
+  abbrev pub standing : Standing t root booleans sides weaks first held live-a live-b families
+  standing = record {
+    counts = g .counts;
+    subset = g .subset;
+    plan = g .plan;
+    root-low = g .root-low;
+    root-proper = g .root-proper;
+    kept = g .kept;
+    in-place = g .in-place;
+    represented = g .represented;
+    time = length v;
+    first-is = first-is;
+  }
+
+  module _ {x held′ live-a′ live-b′ : ℕ} {families′ : List ℕ} {broke quiet : Bool} (c : Cycled standing x held′ live-a′ live-b′ families′ broke quiet) where
+    -- IT GOES ON with what the cycle leaves
+    pub goes-on : Goes t root booleans sides weaks (v ++ x ∷ []) held′ live-a′ live-b′ families′
+    goes-on = record {
+      counts = g .counts;
+      subset = g .subset;
+      plan = g .plan;
+      root-low = g .root-low;
+      root-proper = g .root-proper;
+      kept = nextOf standing x;
+      in-place = next-in-place (W.row t (g .counts) (g .subset) root booleans sides weaks (g .plan) (g .root-low)) (W.row-table t (g .counts) (g .subset) root booleans sides weaks (g .plan) (g .root-low)) (W.node t (g .counts) (g .subset) root booleans sides weaks (g .plan) (g .root-low)) root (g .kept) (length v) x;
+      represented = c .represents;
+      holds = holds-next (W.row t (g .counts) (g .subset) root booleans sides weaks (g .plan) (g .root-low)) (W.row-table t (g .counts) (g .subset) root booleans sides weaks (g .plan) (g .root-low)) (W.node t (g .counts) (g .subset) root booleans sides weaks (g .plan) (g .root-low)) (W.shape t (g .counts) (g .subset) root booleans sides weaks (g .plan) (g .root-low)) (W.down t (g .counts) (g .subset) root booleans sides weaks (g .plan) (g .root-low)) root (W.top t (g .counts) (g .subset) root booleans sides weaks (g .plan) (g .root-low)) v (g .kept) (g .holds) x;
+    }
+
+    -- AND THE VERDICT is right for one sample more
+    pub next-right : Right (propertyAt t root) v (pending (length v)) → Right (propertyAt t root) (v ++ x ∷ []) (judged broke quiet (suc (length v)))
+    next-right r = subst (λ (f : Property). Right f (v ++ x ∷ []) (judged broke quiet (suc (length v)))) tree
+        (subst (λ (b : Bool). Right (propAt (W.node t (g .counts) (g .subset) root booleans sides weaks (g .plan) (g .root-low)) root) (v ++ x ∷ []) (judged b quiet (suc (length v)))) (sym (c .broken-is))
+        (right-next (W.row t (g .counts) (g .subset) root booleans sides weaks (g .plan) (g .root-low)) (W.row-table t (g .counts) (g .subset) root booleans sides weaks (g .plan) (g .root-low)) (W.node t (g .counts) (g .subset) root booleans sides weaks (g .plan) (g .root-low)) (W.shape t (g .counts) (g .subset) root booleans sides weaks (g .plan) (g .root-low)) (W.down t (g .counts) (g .subset) root booleans sides weaks (g .plan) (g .root-low)) root (W.top t (g .counts) (g .subset) root booleans sides weaks (g .plan) (g .root-low)) v (g .kept) (g .holds) x (subst (λ (f : Property). Right f v (pending (length v))) (sym tree) r) (c .quiet-is)))
+      where
+        tree : propAt (W.node t (g .counts) (g .subset) root booleans sides weaks (g .plan) (g .root-low)) root ≡ propertyAt t root
+        tree = root-property t (g .counts) (g .subset) root booleans sides weaks (g .plan) (g .root-low) (g .root-proper)

@@ -1,0 +1,150 @@
+// The monitor of a property: opened on an accepted table, stepped once for each sample.
+ghost use mathlib.Core.Path.{_≡_};
+ghost use mathlib.Core.List.{List, [], _∷_, _++_};
+ghost use Prim.Native.Nat.{ℕ, suc, _<_};
+ghost use lib.ListN.{length};
+ghost use Rattle.psl.specs.Verdicts.{pending, Right};
+ghost use Rattle.psl.specs.Proof.Model.Verdicts.{judged};
+ghost use Rattle.table.specs.Trees.{propertyAt};
+ghost use Rattle.monitor.specs.Follows.{verdictOf, refusal, goingOf, Advances, StepIs};
+ghost use Rattle.monitor.specs.Goes.{Goes};
+use engine::cycle::Expected;
+use engine::cycle::Outcome;
+use engine::plan::Plan;
+use table::Refusal;
+
+// A verdict: broken or settled with its cycle, or pending with the cycles read.
+pub enum Verdict {
+    Broken(u32),
+    Settled(u32),
+    Pending(u32),
+}
+
+// How a property stands after some cycles, beside its families.
+pub struct Stand {
+    pub verdict: Verdict,
+    pub expected: Expected,
+}
+
+// The families are those of the property's weak sequences, from the highest row.
+pub struct Monitor {
+    pub plan: Plan,
+    pub stand: Stand,
+    pub families: [u64; 32],
+}
+
+// The answer of a step: a refusal, or the verdict.
+pub enum Answer {
+    Refused(Refusal),
+    Given(Verdict),
+}
+
+pub struct Stepped {
+    pub answer: Answer,
+    pub monitor: Monitor,
+}
+
+// The verdict at cycle n.
+fn verdict_at(broken: bool, quiet: bool, n: u32) -> Verdict
+    ensures { λ r. ⌜ verdictOf r ≡ judged broken quiet n ⌝ }
+{
+    if broken {
+        return Verdict::Broken(n);
+    }
+    if quiet {
+        return Verdict::Settled(n);
+    }
+    Verdict::Pending(n)
+}
+
+// One cycle after n that left the property pending.
+fn turn(
+    table: &[u8],
+    plan: Plan,
+    expected: Expected,
+    n: u32,
+    sample: u32,
+    families: &mut [u64; 32],
+) -> Stand
+    requires { ⌜ n < 4294967295 ⌝ }
+    ensures { λ r. ⌜ ((v : List ℕ) → n ≡ length v → Right (propertyAt (now (table .entry)) (plan .root)) v (pending (length v))
+        → Goes (now (table .entry)) (plan .root) (plan .booleans) (plan .sides) (plan .weaks) v (expected .held) (expected .live .a) (expected .live .b) (now (families .entry))
+        → Right (propertyAt (now (table .entry)) (plan .root)) (v ++ sample ∷ []) (verdictOf (r .verdict))
+        × Goes (now (table .entry)) (plan .root) (plan .booleans) (plan .sides) (plan .weaks) (v ++ sample ∷ []) (r .expected .held) (r .expected .live .a) (r .expected .live .b) (now (families .exit))) ⌝ }
+{
+    let first = words::with_bit(0, plan.root, n == 0);
+    let o = engine::cycle::cycle(table, plan, expected, first, sample, &mut *families);
+    let expected_after = o.expected;
+    Stand {
+        verdict: verdict_at(o.broken, o.quiet, n + 1),
+        expected: expected_after,
+    }
+}
+
+// The monitor stays as it was.
+fn refused(number: u8, monitor: Monitor) -> Stepped
+    ensures { λ r. ⌜ (r .answer ≡ refusal number) × (r .monitor ≡ monitor) ⌝ }
+{
+    let refusal = Refusal { number, place: 0 };
+    Stepped {
+        answer: Answer::Refused(refusal),
+        monitor,
+    }
+}
+
+fn advanced(table: &[u8], monitor: Monitor, n: u32, sample: u32) -> Stepped
+    requires { ⌜ n < 4294967295 ⌝ }
+    ensures { λ r. ⌜ Advances (now (table .entry)) monitor n sample (r .answer) (r .monitor) ⌝ }
+{
+    let plan = monitor.plan;
+    let expected = monitor.stand.expected;
+    let mut families = monitor.families;
+    let stand = turn(table, plan, expected, n, sample, &mut families);
+    let verdict = stand.verdict;
+    Stepped {
+        answer: Answer::Given(verdict),
+        monitor: Monitor {
+            plan,
+            stand,
+            families,
+        },
+    }
+}
+
+// Whether a property goes on, and after how many cycles.
+enum Going {
+    Over,
+    After(u32),
+}
+
+fn goes_on(verdict: Verdict) -> Going
+    ensures { λ r. ⌜ r ≡ goingOf verdict ⌝ }
+{
+    match verdict {
+        Verdict::Broken(_) => Going::Over,
+        Verdict::Settled(_) => Going::Over,
+        Verdict::Pending(n) => Going::After(n),
+    }
+}
+
+// One sample: refusal 13, or a verdict already given, or refusal 14, or the new verdict.
+pub fn step(table: &[u8], monitor: Monitor, sample: u32) -> Stepped
+    ensures { λ r. ⌜ StepIs (now (table .entry)) monitor sample (r .answer) (r .monitor) ⌝ }
+{
+    if words::has_from(sample as u64, little::byte_at(table, 2)) {
+        return refused(13, monitor);
+    }
+    let stand = monitor.stand;
+    let verdict = stand.verdict;
+    let goes = goes_on(verdict);
+    let Going::After(n) = goes else {
+        return Stepped {
+            answer: Answer::Given(verdict),
+            monitor,
+        };
+    };
+    if n == 4294967295 {
+        return refused(14, monitor);
+    }
+    advanced(table, monitor, n, sample)
+}
