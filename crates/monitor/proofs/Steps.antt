@@ -1,13 +1,12 @@
 -- The cases of a step.
 use Prim.Native.Nat.{ℕ, _<_}
 use native.Mathlib.Omega.{arith}
-use mathlib.Core.Path.{_≡_, refl, sym, _∙_, ap, subst}
+use mathlib.Core.Path.{_≡_, sym, _∙_, subst}
 use mathlib.Core.Bool.{Bool, true, false}
 use mathlib.Core.List.{List}
 use lib.Dec.{T}
 use Rattle.psl.specs.Proof.Decide.Tells.{Tells, tells-true, true-tells}
 use Rattle.words.specs.Sets.{HasFrom}
-use Rattle.little.specs.Bytes.{byteAt}
 use Rattle.monitor.specs.declared.Verdict.{Verdict}
 use Rattle.monitor.specs.declared.Verdict.the-variants.{Broken, Settled, Pending}
 use Rattle.monitor.specs.declared.Monitor.{Monitor}

@@ -1,15 +1,13 @@
 -- A property that goes on: its words are what the cycles so far have kept. Nothing here has to be believed.
-use Prim.Native.Nat.{ℕ, zero, suc, _≤_, _<_}
-use native.Mathlib.Omega.{arith}
-use mathlib.Core.Path.{_≡_, refl, sym, _∙_, ap, subst}
-use mathlib.Core.Bool.{Bool, true, false, _&&_}
+use Prim.Native.Nat.{ℕ, suc, _<_}
+use mathlib.Core.Path.{_≡_, sym, subst}
+use mathlib.Core.Bool.{Bool, _&&_}
 use mathlib.Core.List.{List, [], _∷_, _++_}
 use lib.Dec.{eqb}
-use lib.ListN.{length, take}
+use lib.ListN.{length}
 use Rattle.psl.specs.Booleans.{bit}
-use Rattle.psl.specs.Properties.{Property, Breaks, Secures}
-use Rattle.psl.specs.Verdicts.{Verdict, broken, settled, pending, Right, is-pending}
-use Rattle.psl.specs.Laws.{empty-breaks-nothing, empty-secures-nothing}
+use Rattle.psl.specs.Properties.{Property}
+use Rattle.psl.specs.Verdicts.{pending, Right}
 use Rattle.psl.specs.Proof.Model.Verdicts.{judged}
 use Rattle.psl.specs.Proof.Model.Nodes.{propAt}
 use Rattle.table.specs.Trees.{propertyAt}

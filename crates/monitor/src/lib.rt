@@ -6,11 +6,17 @@ ghost use lib.ListN.{length};
 ghost use Rattle.psl.specs.Verdicts.{pending, Right};
 ghost use Rattle.psl.specs.Proof.Model.Verdicts.{judged};
 ghost use Rattle.table.specs.Trees.{propertyAt};
+ghost use Rattle.table.specs.Check.{checkOf};
+ghost use Rattle.table.specs.Subset.{Subset};
+ghost use Rattle.table.specs.declared.Counts.{Counts};
+ghost use Rattle.monitor.specs.declared.Turned.the-variants.{Away, In};
+ghost use Rattle.monitor.specs.Opens.{Fresh, noPlan, Ready, OpenIs};
 ghost use Rattle.monitor.specs.Follows.{verdictOf, refusal, goingOf, Advances, StepIs};
 ghost use Rattle.monitor.specs.Goes.{Goes};
 use engine::cycle::Expected;
 use engine::cycle::Outcome;
 use engine::plan::Plan;
+use table::Checked;
 use table::Refusal;
 
 // A verdict: broken or settled with its cycle, or pending with the cycles read.
@@ -42,6 +48,85 @@ pub enum Answer {
 pub struct Stepped {
     pub answer: Answer,
     pub monitor: Monitor,
+}
+
+// The answer of opening, beside the monitor.
+pub enum Turned {
+    Away(Refusal),
+    In,
+}
+
+pub struct Opened {
+    pub turned: Turned,
+    pub monitor: Monitor,
+}
+
+// A monitor that has read nothing.
+fn fresh(plan: Plan) -> Monitor
+    ensures { λ r. ⌜ Fresh plan r ⌝ }
+{
+    let expected = engine::cycle::nothing();
+    let stand = Stand {
+        verdict: Verdict::Pending(0),
+        expected,
+    };
+    Monitor {
+        plan,
+        stand,
+        families: [0u64; 32],
+    }
+}
+
+// The plan of no property.
+fn no_plan() -> Plan
+    ensures { λ r. ⌜ r ≡ noPlan ⌝ }
+{
+    Plan {
+        booleans: 0,
+        sides: 0,
+        weaks: 0,
+        root: 0,
+    }
+}
+
+fn not_opened(refusal: Refusal) -> Opened
+    ensures { λ r. ⌜ (r .turned ≡ Away refusal) × Fresh noPlan (r .monitor) ⌝ }
+{
+    Opened {
+        turned: Turned::Away(refusal),
+        monitor: fresh(no_plan()),
+    }
+}
+
+// A property of an accepted table of so many nodes.
+fn opening(table: &[u8], nodes: u8, property: u8) -> Opened
+    ensures { λ r. ⌜ (r .turned ≡ In) × Fresh (r .monitor .plan) (r .monitor) ⌝ }
+    ensures { λ r. ⌜ ((counts : Counts) → Subset (now (table .entry)) counts → nodes ≡ counts .nodes → property < counts .properties → Ready (now (table .entry)) counts property (r .monitor)) ⌝ }
+{
+    let root = (table::roots::root_at(table, nodes, property) % 256) as u8;
+    Opened {
+        turned: Turned::In,
+        monitor: fresh(engine::plan::planned(table, root)),
+    }
+}
+
+// Refusals 1 to 11, then 12; else a monitor that has read nothing.
+pub fn open(table: &[u8], property: u32) -> Opened
+    ensures { λ r. ⌜ OpenIs (now (table .entry)) property (checkOf (now (table .entry))) (r .turned) (r .monitor) ⌝ }
+{
+    let checked = table::check(table);
+    match checked {
+        Checked::Refused(refusal) => not_opened(refusal),
+        Checked::Accepted(counts) => {
+            if (counts.properties as u32) <= property {
+                return not_opened(Refusal {
+                    number: 12,
+                    place: 0,
+                });
+            }
+            opening(table, counts.nodes, (property % 256) as u8)
+        }
+    }
 }
 
 // The verdict at cycle n.
