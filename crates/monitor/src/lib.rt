@@ -208,7 +208,7 @@ fn goes_on(verdict: Verdict) -> Going
     match verdict {
         Verdict::Broken(_) => Going::Over,
         Verdict::Settled(_) => Going::Over,
-        Verdict::Pending(n) => Going::After(n),
+        Verdict::Pending(cycles) => Going::After(cycles),
     }
 }
 
