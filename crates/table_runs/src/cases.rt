@@ -8,7 +8,7 @@ use crate::tables::BOOLEANS;
 use crate::tables::DOCUMENT;
 use crate::tables::ladder;
 
-pub fn lengths() -> Tally {
+pub(crate) fn lengths() -> Tally {
     let mut t = Tally::new();
     // the document's table
     t = accepts(t, DOCUMENT, b"");
@@ -27,7 +27,7 @@ pub fn lengths() -> Tally {
     t
 }
 
-pub fn headers() -> Tally {
+pub(crate) fn headers() -> Tally {
     let mut t = Tally::new();
     // version 0, 2, 257
     t = each(t, 2, 0, b"\x00\x00\x00\x02\x01\x01");
@@ -52,7 +52,7 @@ pub fn headers() -> Tally {
     t
 }
 
-pub fn limits() -> Tally {
+pub(crate) fn limits() -> Tally {
     let mut t = Tally::new();
     // 32 signals
     t = accepts(t, DOCUMENT, b"\x02\x20");
@@ -65,7 +65,7 @@ pub fn limits() -> Tally {
     t
 }
 
-pub fn kinds() -> Tally {
+pub(crate) fn kinds() -> Tally {
     let mut t = Tally::new();
     // kinds 0, 7, 15, 21, 31, 43, 47, 51, 255
     t = each(
@@ -87,7 +87,7 @@ pub fn kinds() -> Tally {
     t
 }
 
-pub fn fields() -> Tally {
+pub(crate) fn fields() -> Tally {
     let mut t = Tally::new();
     // signal number S; a signal's field b
     t = each(t, 7, 0, b"\x11\x03\x12\x01");
@@ -106,7 +106,7 @@ pub fn fields() -> Tally {
     t
 }
 
-pub fn classes() -> Tally {
+pub(crate) fn classes() -> Tally {
     let mut t = Tally::new();
     // not of a property
     t = refuses(t, DOCUMENT, 8, 4, b"\x20\x04\x21\x02");
@@ -125,7 +125,7 @@ pub fn classes() -> Tally {
     t
 }
 
-pub fn roots() -> Tally {
+pub(crate) fn roots() -> Tally {
     let mut t = Tally::new();
     // root N
     t = refuses(t, DOCUMENT, 9, 1, b"\x26\x05");
@@ -142,7 +142,7 @@ pub fn roots() -> Tally {
     t
 }
 
-pub fn uses() -> Tally {
+pub(crate) fn uses() -> Tally {
     let mut t = Tally::new();
     // one root twice
     t = refuses(t, DOCUMENT, 10, 2, b"\x26\x02");
@@ -171,7 +171,7 @@ pub fn uses() -> Tally {
     t
 }
 
-pub fn sequence_uses() -> Tally {
+pub(crate) fn sequence_uses() -> Tally {
     let mut t = Tally::new();
     // a sequence that nothing uses
     t = refuses(t, ladder(7, 42), 10, 5, b"\x29\x00");
@@ -184,7 +184,7 @@ pub fn sequence_uses() -> Tally {
     t
 }
 
-pub fn cells() -> Tally {
+pub(crate) fn cells() -> Tally {
     let mut t = Tally::new();
     // six cells
     t = accepts(t, ladder(7, 32), b"");
@@ -201,7 +201,7 @@ pub fn cells() -> Tally {
     t
 }
 
-pub fn many_cells() -> Tally {
+pub(crate) fn many_cells() -> Tally {
     let mut t = Tally::new();
     // never of 63 cells
     t = accepts(t, ladder(64, 42), b"");

@@ -14,7 +14,7 @@ pub struct Tally {
 impl Tally {
     const MOST: u16 = 1000;
 
-    pub fn new() -> Tally {
+    pub(crate) fn new() -> Tally {
         Tally { cases: 0, wrong: 0 }
     }
 
@@ -73,7 +73,14 @@ fn is_right_up_to(table: &[u8], length: usize, number: u8, place: u32) -> bool {
 }
 
 // The first bytes of a table that is changed are refused so, or accepted where the number is 0.
-pub fn cut(t: Tally, base: u16, length: usize, number: u8, place: u32, changes: &[u8]) -> Tally {
+pub(crate) fn cut(
+    t: Tally,
+    base: u16,
+    length: usize,
+    number: u8,
+    place: u32,
+    changes: &[u8],
+) -> Tally {
     let mut room = io::buffer();
     let table: &mut [u8] = &mut room;
     tables::put_base(&mut *table, base);
@@ -81,16 +88,16 @@ pub fn cut(t: Tally, base: u16, length: usize, number: u8, place: u32, changes: 
     t.case(is_right_up_to(&*table, length, number, place))
 }
 
-pub fn refuses(t: Tally, base: u16, number: u8, place: u32, changes: &[u8]) -> Tally {
+pub(crate) fn refuses(t: Tally, base: u16, number: u8, place: u32, changes: &[u8]) -> Tally {
     cut(t, base, tables::length(base), number, place, changes)
 }
 
-pub fn accepts(t: Tally, base: u16, changes: &[u8]) -> Tally {
+pub(crate) fn accepts(t: Tally, base: u16, changes: &[u8]) -> Tally {
     refuses(t, base, 0, 0, changes)
 }
 
 // Each change by itself has the document's table refused so.
-pub fn each(t: Tally, number: u8, place: u32, changes: &[u8]) -> Tally {
+pub(crate) fn each(t: Tally, number: u8, place: u32, changes: &[u8]) -> Tally {
     let mut t = t;
     let mut i: usize = 0;
     while i < changes.len() {

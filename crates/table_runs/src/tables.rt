@@ -7,12 +7,12 @@ pub const BOOLEANS: u16 = 1;
 
 // A ladder of this many nodes: a signal, then each node is the one before and the signal, one after the other; the last is of this kind, on
 // the one before, and is the root.
-pub fn ladder(nodes: u8, kind: u8) -> u16 {
+pub(crate) fn ladder(nodes: u8, kind: u8) -> u16 {
     256 * (kind as u16) + (nodes as u16)
 }
 
 // Its length.
-pub fn length(base: u16) -> usize {
+pub(crate) fn length(base: u16) -> usize {
     match base {
         DOCUMENT => 42,
         BOOLEANS => 24,
@@ -20,7 +20,7 @@ pub fn length(base: u16) -> usize {
     }
 }
 
-pub fn put(table: &mut [u8], at: usize, value: u8) {
+pub(crate) fn put(table: &mut [u8], at: usize, value: u8) {
     if at < table.len() {
         table[at] = value;
     }
@@ -68,7 +68,7 @@ fn put_ladder(table: &mut [u8], nodes: u8, kind: u8) {
     }
 }
 
-pub fn put_base(table: &mut [u8], base: u16) {
+pub(crate) fn put_base(table: &mut [u8], base: u16) {
     match base {
         DOCUMENT => put_all(
             &mut *table,
