@@ -11,11 +11,11 @@ use lib.ListN.{length}
 use Rattle.psl.specs.Proof.Decide.Tells.{Tells, does, doesnt, tells-and, tells-iff, tells-true, tells-eq, tells-T}
 use Rattle.words.specs.Sets.{HasFrom}
 use Rattle.words.specs.Ends.{has-from}
-use Rattle.trace.specs.Bytes.{u16At, u32At}
+use Rattle.little.specs.Bytes.{u16At, u32At}
 use Rattle.trace.specs.Trace.{cyclesOf, sampleAt, RightTrace}
-use Rattle.trace.specs.Refusals.{headerOf, headerRight, undeclared, declaredFrom, declaredOf, checkedTrace}
+use Rattle.trace.specs.Refusals.{refused, headerOf, headerRight, undeclared, declaredFrom, declaredOf, checkedTrace}
 use Rattle.trace.specs.declared.refusals.TraceChecked.{TraceChecked}
-use Rattle.trace.specs.declared.refusals.TraceChecked.the-variants.{Accepted, Refused}
+use Rattle.trace.specs.declared.refusals.TraceChecked.the-variants.{Accepted}
 
 -- "a sample sets a bit S or above"
 abbrev pub Undeclared : ℕ → List ℕ → ℕ → Type 0
@@ -24,10 +24,10 @@ Undeclared S bytes i = HasFrom (sampleAt bytes i) S
 -- The answer to a trace file for a table of S signals.
 pub data TraceAnswer (S : ℕ) (bytes : List ℕ) : TraceChecked → Type 0 where
   -- "15: trace file header or length wrong", place 0
-  wrong : ¬ RightTrace S bytes → TraceAnswer S bytes (Refused 15 0)
+  wrong : ¬ RightTrace S bytes → TraceAnswer S bytes (refused 15 0)
   -- "13: a sample sets a bit S or above", "lowest cycle", which counts from 1
   undeclared-at : (i : ℕ) → RightTrace S bytes → i < cyclesOf bytes → Undeclared S bytes i → ((k : ℕ) → k < i → ¬ Undeclared S bytes k)
-      → TraceAnswer S bytes (Refused 13 (i + 1))
+      → TraceAnswer S bytes (refused 13 (i + 1))
   -- neither
   right : RightTrace S bytes → ((k : ℕ) → k < cyclesOf bytes → ¬ Undeclared S bytes k) → TraceAnswer S bytes (Accepted (cyclesOf bytes))
 
@@ -52,7 +52,7 @@ scan-means S bytes r (suc n) i e none = go (undeclared S (sampleAt bytes i)) (to
     told k = unfold undeclared in has-from (sampleAt bytes k) S
 
     go : (b : Bool) → Tells (Undeclared S bytes i) b → (((k : ℕ) → k < suc i → ¬ Undeclared S bytes k) → TraceAnswer S bytes (declaredFrom S bytes (cyclesOf bytes) n (suc i)))
-        → TraceAnswer S bytes (cond b (Refused 13 (i + 1)) (declaredFrom S bytes (cyclesOf bytes) n (suc i)))
+        → TraceAnswer S bytes (cond b (refused 13 (i + 1)) (declaredFrom S bytes (cyclesOf bytes) n (suc i)))
     go true (does u) rest = undeclared-at i r (omega arith) u none
     go false (doesnt u) rest = rest (λ k l. elim (decLt k i) [ yes m ↦ none k m | no m ↦ (let z : k ≡ i = omega arith in subst (λ (j : ℕ). ¬ Undeclared S bytes j) (sym z) u) ])
 
@@ -60,7 +60,7 @@ pub answers : (S : ℕ) (bytes : List ℕ) → TraceAnswer S bytes (checkedTrace
 unfolding checkedTrace declaredOf
 answers S bytes = go (headerRight (headerOf bytes) S (length bytes)) (right-means S bytes)
   where
-    go : (b : Bool) → Tells (RightTrace S bytes) b → TraceAnswer S bytes (cond b (declaredFrom S bytes (cyclesOf bytes) (cyclesOf bytes) 0) (Refused 15 0))
+    go : (b : Bool) → Tells (RightTrace S bytes) b → TraceAnswer S bytes (cond b (declaredFrom S bytes (cyclesOf bytes) (cyclesOf bytes) 0) (refused 15 0))
     go true (does r) = scan-means S bytes r (cyclesOf bytes) 0 (omega arith) (λ k l. absurd (omega arith))
     go false (doesnt r) = wrong r
 
@@ -72,26 +72,23 @@ answer-one (wrong n) (right r none) = absurd (n r)
 answer-one (undeclared-at i r l u none) (wrong n) = absurd (n r)
 answer-one (undeclared-at i r l u none) (undeclared-at j q m v few) = elim (decLt i j) [
   | yes g ↦ absurd (few i g u)
-  | no g ↦ elim (decLt j i) [ yes h ↦ absurd (none j h v) | no h ↦ ap (λ (k : ℕ). Refused 13 (k + 1)) (omega arith) ]
+  | no g ↦ elim (decLt j i) [ yes h ↦ absurd (none j h v) | no h ↦ ap (λ (k : ℕ). refused 13 (k + 1)) (omega arith) ]
 ]
 answer-one (undeclared-at i r l u none) (right q few) = absurd (few i l u)
 answer-one (right r none) (wrong n) = absurd (n r)
 answer-one (right r none) (undeclared-at j q m v few) = absurd (none j m v)
 answer-one (right r none) (right q few) = refl
 
--- what an accepted trace gives: it is right, its cycles are those accepted, and each sample is below 2 ^ S
+-- what an accepted trace gives: it is right, its cycles are those accepted, and no sample sets a bit S or above
 pub record Declared (S : ℕ) (bytes : List ℕ) (cycles : ℕ) : Type 0 where
   pub right-trace : RightTrace S bytes
   pub its-cycles : cycles ≡ cyclesOf bytes
-  pub samples-below : (k : ℕ) → k < cycles → sampleAt bytes k < 2 ^ S
+  pub none-undeclared : (k : ℕ) → k < cyclesOf bytes → ¬ Undeclared S bytes k
 
 pub accepted-gives : (S : ℕ) (bytes : List ℕ) (cycles : ℕ) → checkedTrace S bytes ≡ Accepted cycles → Declared S bytes cycles
 accepted-gives S bytes cycles e = go (answers S bytes) e
   where
-    below : (x : ℕ) → ¬ HasFrom x S → x < 2 ^ S
-    below x n = elim (decLt x (2 ^ S)) [ yes l ↦ l | no l ↦ absurd (n (tells-true (has-from x S) (le-leb (2 ^ S) x (omega arith)))) ]
-
     go : {a : TraceChecked} → TraceAnswer S bytes a → a ≡ Accepted cycles → Declared S bytes cycles
     go (wrong n) e = let z : _≡_ {A = ℕ} 0 1 = cc in absurd (omega arith)
     go (undeclared-at i r l u none) e = let z : _≡_ {A = ℕ} 0 1 = cc in absurd (omega arith)
-    go (right r none) e = let z : cyclesOf bytes ≡ cycles = cc in record { right-trace = r; its-cycles = sym z; samples-below = λ k l. below (sampleAt bytes k) (none k (omega arith)) }
+    go (right r none) e = let z : cyclesOf bytes ≡ cycles = cc in record { right-trace = r; its-cycles = sym z; none-undeclared = none }

@@ -4,11 +4,14 @@ use mathlib.Core.Bool.{Bool, _&&_, cond}
 use mathlib.Core.List.{List}
 use lib.Dec.{eqb, leb}
 use lib.ListN.{length}
-use Rattle.trace.specs.Bytes.{u16At, u32At}
+use Rattle.little.specs.Bytes.{u16At, u32At}
 use Rattle.trace.specs.Trace.{cyclesOf, sampleAt}
 use Rattle.trace.specs.declared.header.Header.{Header}
 use Rattle.trace.specs.declared.refusals.TraceChecked.{TraceChecked}
 use Rattle.trace.specs.declared.refusals.TraceChecked.the-variants.{Accepted, Refused}
+
+abbrev pub refused : ℕ → ℕ → TraceChecked
+refused number place = Refused (record { number = number; place = place })
 
 -- "Header of 12 bytes: version u16 ..; signals u16 ..; cycles C u32 ..; offset of samples u32"
 unfoldable pub headerOf : List ℕ → Header
@@ -27,7 +30,7 @@ undeclared S sample = leb (2 ^ S) sample
 -- The n cycles from cycle i on, counted from 0, and "A cycle given as a place counts from 1".
 unfoldable pub declaredFrom : ℕ → List ℕ → ℕ → ℕ → ℕ → TraceChecked
 declaredFrom S bytes cycles zero i = Accepted cycles
-declaredFrom S bytes cycles (suc n) i = cond (undeclared S (sampleAt bytes i)) (Refused 13 (i + 1)) (declaredFrom S bytes cycles n (suc i))
+declaredFrom S bytes cycles (suc n) i = cond (undeclared S (sampleAt bytes i)) (refused 13 (i + 1)) (declaredFrom S bytes cycles n (suc i))
 
 -- 13 at the lowest cycle that sets such a bit
 unfoldable pub declaredOf : ℕ → List ℕ → ℕ → TraceChecked
@@ -35,4 +38,4 @@ declaredOf S bytes cycles = declaredFrom S bytes cycles cycles 0
 
 -- 15, then 13
 unfoldable pub checkedTrace : ℕ → List ℕ → TraceChecked
-checkedTrace S bytes = cond (headerRight (headerOf bytes) S (length bytes)) (declaredOf S bytes (cyclesOf bytes)) (Refused 15 0)
+checkedTrace S bytes = cond (headerRight (headerOf bytes) S (length bytes)) (declaredOf S bytes (cyclesOf bytes)) (refused 15 0)

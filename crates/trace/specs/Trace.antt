@@ -4,7 +4,7 @@ use Prim.Native.Nat.{ℕ, zero, suc, _+_, _*_, _≤_}
 use mathlib.Core.List.{List, [], _∷_}
 use mathlib.Core.Path.{_≡_}
 use lib.ListN.{length}
-use Rattle.trace.specs.Bytes.{u16At, u32At}
+use Rattle.little.specs.Bytes.{u16At, u32At}
 
 -- "cycles C u32"
 unfoldable pub cyclesOf : List ℕ → ℕ

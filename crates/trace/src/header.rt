@@ -1,8 +1,8 @@
 // The header of a trace: refusal 15.
 ghost use mathlib.Core.Path.{_≡_};
 ghost use Rattle.trace.specs.Refusals.{headerOf, headerRight};
-use crate::bytes::u16_at;
-use crate::bytes::u32_at;
+use little::u16_at;
+use little::u32_at;
 
 pub struct Header {
     pub version: u16,

@@ -1,8 +1,8 @@
 // A reader over a lent trace: it holds the bytes and the place of the next sample, and gives one sample after the other.
 ghost use mathlib.Core.Path.{_≡_};
 ghost use Rattle.trace.specs.Reader.{readingAt, gives, moved};
-use crate::bytes::cycles_of;
-use crate::bytes::sample_at;
+use crate::samples::cycles_of;
+use crate::samples::sample_at;
 
 pub struct TraceReader<'a> {
     pub bytes: &'a [u8],

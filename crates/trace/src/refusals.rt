@@ -1,13 +1,20 @@
 // The check of a trace: refusal 15, then 13 at the lowest cycle.
 ghost use mathlib.Core.Path.{_≡_};
-ghost use Rattle.trace.specs.Refusals.{undeclared, declaredOf, checkedTrace};
-use crate::bytes::sample_at;
+ghost use Rattle.trace.specs.Refusals.{refused, undeclared, declaredOf, checkedTrace};
+use crate::samples::sample_at;
 use crate::header::Header;
+use table::Refusal;
 
-// The answer: the cycles of a right trace, whose samples stay in the lent bytes, or the refusal, its number and its place.
+// The answer: the cycles of a right trace, whose samples stay in the lent bytes, or the refusal.
 pub enum TraceChecked {
     Accepted(u32),
-    Refused(u8, u32),
+    Refused(Refusal),
+}
+
+fn refuse(number: u8, place: u32) -> TraceChecked
+    ensures { λ r. ⌜ r ≡ refused number place ⌝ }
+{
+    TraceChecked::Refused(Refusal { number, place })
 }
 
 pub fn check_trace(bytes: &[u8], signals: u8) -> TraceChecked
@@ -17,7 +24,7 @@ pub fn check_trace(bytes: &[u8], signals: u8) -> TraceChecked
     if header.is_right(signals, bytes.len()) {
         declared(bytes, signals, header.cycles)
     } else {
-        TraceChecked::Refused(15, 0)
+        refuse(15, 0)
     }
 }
 
@@ -28,7 +35,7 @@ fn declared(bytes: &[u8], signals: u8, cycles: u32) -> TraceChecked
     let mut i: u32 = 0;
     while i < cycles {
         if is_undeclared(sample_at(bytes, i), signals) {
-            return TraceChecked::Refused(13, i + 1);
+            return refuse(13, i + 1);
         }
         i += 1;
     }

@@ -22,13 +22,16 @@ sample-at-requires c κs = search needs
 is-undeclared-requires : tie.Need-is-undeclared-requires Inv-loop μ-loop
 is-undeclared-requires c κs = search needs
 
-add-t8 : tie.Need-add-t8 Inv-loop μ-loop
-add-t8 c = search needs
+add-refuse : tie.Need-add-refuse Inv-loop μ-loop
+add-refuse c = search needs
+
+refuse-requires : tie.Need-refuse-requires Inv-loop μ-loop
+refuse-requires c κs = search needs
 
 returns : tie.Need-returns Inv-loop μ-loop
 returns c =
-    let e = rw (c .before .before .sample-at .ensures) at (c .before .is-undeclared .ensures) in
-    sym (scan-here _ _ _ _ (c .before .before .before .loop-test .taken) (sym e ∙ c .if1 .taken)) ∙ c .before .before .before .before .loop .inv .1
+    let e = rw (c .before .before .before .sample-at .ensures) at (c .before .before .is-undeclared .ensures) in
+    c .refuse .ensures ∙ sym (scan-here _ _ _ _ (c .before .before .before .before .loop-test .taken) (sym e ∙ c .before .if1 .taken)) ∙ c .before .before .before .before .before .loop .inv .1
 
 add-i : tie.Need-add-i Inv-loop μ-loop
 add-i c = search needs
@@ -53,7 +56,8 @@ declared-spec =
     loop-holds
     sample-at-requires
     is-undeclared-requires
-    add-t8
+    add-refuse
+    refuse-requires
     returns
     add-i
     loop-less

@@ -1,7 +1,7 @@
 use Rattle.trace.specs.Trace.{cyclesOf}
 use borrow.Author.Needs.{needs}
-use Rattle.trace.proofs.bytes.cycles_of.Statement.{statement}
-use Rattle.trace.proofs.bytes.cycles_of.Tie as tie
+use Rattle.trace.proofs.samples.cycles_of.Statement.{statement}
+use Rattle.trace.proofs.samples.cycles_of.Tie as tie
 
 u32-at-requires : tie.Need-u32-at-requires
 u32-at-requires c κs = search needs
