@@ -63,7 +63,7 @@ module _ (t file : List ℕ) (counts : Counts) (property cycles : ℕ) (m : Moni
 pub signals-are : (t : List ℕ) (counts : Counts) → checkOf t ≡ Table.Accepted counts → signalsOf t ≡ counts .signals
 signals-are t counts e = let z = accepted-subset t counts e .layout in omega (arith, z .signals, z .signals-range .1)
 
-verdict-one : (a b : Verdict) → verdictOf a ≡ verdictOf b → a ≡ b
+pub verdict-one : (a b : Verdict) → verdictOf a ≡ verdictOf b → a ≡ b
 verdict-one (Broken n) (Broken m) e = let z : n ≡ m = cc in ap Broken z
 verdict-one (Settled n) (Settled m) e = let z : n ≡ m = cc in ap Settled z
 verdict-one (Pending n) (Pending m) e = let z : n ≡ m = cc in ap Pending z

@@ -4,8 +4,8 @@ pub mod Trace
 pub mod Refusals
 pub mod Reader
 pub mod Meaning
-pub mod Unique
 pub mod Samples
 pub mod Readings
 pub mod Judging
 pub mod Feeding
+pub mod Unique

@@ -1,8 +1,8 @@
 // The check of a trace: refusal 15, then 13 at the lowest cycle.
 ghost use mathlib.Core.Path.{_≡_};
 ghost use Rattle.trace.specs.Refusals.{refused, undeclared, declaredOf, checkedTrace};
-use crate::samples::sample_at;
 use crate::header::Header;
+use crate::samples::sample_at;
 use table::Refusal;
 
 // The answer: the cycles of a right trace, whose samples stay in the lent bytes, or the refusal.
