@@ -8,6 +8,8 @@ use Rattle.psl.specs.Verdicts as Psl
 use Rattle.table.specs.Trees.{propertyAt}
 use Rattle.monitor.specs.declared.Verdict.{Verdict}
 use Rattle.monitor.specs.declared.Verdict.the-variants.{Broken, Settled, Pending}
+use Rattle.engine.specs.declared.plan.Plan.{Plan}
+use Rattle.monitor.specs.declared.Stand.{Stand}
 use Rattle.monitor.specs.declared.Monitor.{Monitor}
 use Rattle.monitor.specs.declared.Answer.{Answer}
 use Rattle.monitor.specs.declared.Answer.the-variants.{Refused, Given}
@@ -53,11 +55,18 @@ pub record Advances (t : List ℕ) (before : Monitor) (n x : ℕ) (answer : Answ
       × Goes t (before .plan .root) (before .plan .booleans) (before .plan .sides) (before .plan .weaks) (v ++ x ∷ []) (after .stand .expected .held) (after .stand .expected .live .a)
       (after .stand .expected .live .b) (after .families)
 
+-- The monitor of these parts.
+abbrev pub monitorOf : Plan → Stand → List ℕ → Monitor
+monitorOf plan stand families = record { plan = plan; stand = stand; families = families }
+
 -- A declared sample: a verdict already given is repeated; else one cycle more, up to the count limit.
 abbrev pub DeclaredStep : List ℕ → Monitor → ℕ → Answer → Monitor → Verdict → Type 0
 DeclaredStep t before x answer after (Broken n) = (answer ≡ Given (Broken n)) × (after ≡ before)
 DeclaredStep t before x answer after (Settled n) = (answer ≡ Given (Settled n)) × (after ≡ before)
 DeclaredStep t before x answer after (Pending n) = (n ≡ 4294967295 → (answer ≡ refusal 14) × (after ≡ before)) × (n < 4294967295 → Advances t before n x answer after)
+
+pub record DeclaredIs (t : List ℕ) (before : Monitor) (x : ℕ) (answer : Answer) (after : Monitor) : Type 0 where
+  pub steps : DeclaredStep t before x answer after (before .stand .verdict)
 
 pub record StepIs (t : List ℕ) (before : Monitor) (x : ℕ) (answer : Answer) (after : Monitor) : Type 0 where
   -- "refusal 13 if the sample sets a bit S or above", also after a verdict

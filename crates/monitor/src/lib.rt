@@ -11,7 +11,7 @@ ghost use Rattle.table.specs.Subset.{Subset};
 ghost use Rattle.table.specs.declared.Counts.{Counts};
 ghost use Rattle.monitor.specs.declared.Turned.the-variants.{Away, In};
 ghost use Rattle.monitor.specs.Opens.{Fresh, noPlan, Ready, OpenIs};
-ghost use Rattle.monitor.specs.Follows.{verdictOf, refusal, goingOf, Advances, StepIs};
+ghost use Rattle.monitor.specs.Follows.{verdictOf, refusal, goingOf, monitorOf, Advances, DeclaredIs, StepIs};
 ghost use Rattle.monitor.specs.Goes.{Goes};
 use engine::cycle::Expected;
 use engine::cycle::Outcome;
@@ -166,33 +166,29 @@ fn turn(
     }
 }
 
-// The monitor stays as it was.
-fn refused(number: u8, monitor: Monitor) -> Stepped
-    ensures { λ r. ⌜ (r .answer ≡ refusal number) × (r .monitor ≡ monitor) ⌝ }
-{
-    let refusal = Refusal { number, place: 0 };
-    Stepped {
-        answer: Answer::Refused(refusal),
-        monitor,
-    }
+// The answer to a sample, and how the property stands then.
+pub struct Told {
+    pub answer: Answer,
+    pub stand: Stand,
 }
 
-fn advanced(table: &[u8], monitor: Monitor, n: u32, sample: u32) -> Stepped
+fn advanced(
+    table: &[u8],
+    plan: Plan,
+    stand: Stand,
+    n: u32,
+    sample: u32,
+    families: &mut [u64; 32],
+) -> Told
     requires { ⌜ n < 4294967295 ⌝ }
-    ensures { λ r. ⌜ Advances (now (table .entry)) monitor n sample (r .answer) (r .monitor) ⌝ }
+    ensures { λ r. ⌜ Advances (now (table .entry)) (monitorOf plan stand (now (families .entry))) n sample (r .answer) (monitorOf plan (r .stand) (now (families .exit))) ⌝ }
 {
-    let plan = monitor.plan;
-    let expected = monitor.stand.expected;
-    let mut families = monitor.families;
-    let stand = turn(table, plan, expected, n, sample, &mut families);
-    let verdict = stand.verdict;
-    Stepped {
+    let expected = stand.expected;
+    let after = turn(table, plan, expected, n, sample, &mut *families);
+    let verdict = after.verdict;
+    Told {
         answer: Answer::Given(verdict),
-        monitor: Monitor {
-            plan,
-            stand,
-            families,
-        },
+        stand: after,
     }
 }
 
@@ -212,24 +208,61 @@ fn goes_on(verdict: Verdict) -> Going
     }
 }
 
-// One sample: refusal 13, or a verdict already given, or refusal 14, or the new verdict.
+// A refusal at place 0.
+fn refused(number: u8) -> Answer
+    ensures { λ r. ⌜ r ≡ refusal number ⌝ }
+{
+    Answer::Refused(Refusal { number, place: 0 })
+}
+
+// One declared sample, the families lent: a verdict already given, or refusal 14, or the new verdict.
+pub fn declared_step(
+    table: &[u8],
+    plan: Plan,
+    stand: Stand,
+    sample: u32,
+    families: &mut [u64; 32],
+) -> Told
+    ensures { λ r. ⌜ DeclaredIs (now (table .entry)) (monitorOf plan stand (now (families .entry))) sample (r .answer) (monitorOf plan (r .stand) (now (families .exit))) ⌝ }
+{
+    let verdict = stand.verdict;
+    let goes = goes_on(verdict);
+    let Going::After(n) = goes else {
+        return Told {
+            answer: Answer::Given(verdict),
+            stand,
+        };
+    };
+    if n == 4294967295 {
+        return Told {
+            answer: refused(14),
+            stand,
+        };
+    }
+    advanced(table, plan, stand, n, sample, &mut *families)
+}
+
+// One sample: refusal 13, or what a declared sample gives.
 pub fn step(table: &[u8], monitor: Monitor, sample: u32) -> Stepped
     ensures { λ r. ⌜ StepIs (now (table .entry)) monitor sample (r .answer) (r .monitor) ⌝ }
 {
     if words::has_from(sample as u64, little::byte_at(table, 2)) {
-        return refused(13, monitor);
-    }
-    let stand = monitor.stand;
-    let verdict = stand.verdict;
-    let goes = goes_on(verdict);
-    let Going::After(n) = goes else {
         return Stepped {
-            answer: Answer::Given(verdict),
+            answer: refused(13),
             monitor,
         };
-    };
-    if n == 4294967295 {
-        return refused(14, monitor);
     }
-    advanced(table, monitor, n, sample)
+    let plan = monitor.plan;
+    let mut families = monitor.families;
+    let told = declared_step(table, plan, monitor.stand, sample, &mut families);
+    let answer = told.answer;
+    let stand = told.stand;
+    Stepped {
+        answer,
+        monitor: Monitor {
+            plan,
+            stand,
+            families,
+        },
+    }
 }
