@@ -13,9 +13,13 @@ ghost use Rattle.monitor.specs.declared.Turned.the-variants.{Away, In};
 ghost use Rattle.monitor.specs.Opens.{Fresh, noPlan, Ready, OpenIs};
 ghost use Rattle.monitor.specs.Follows.{verdictOf, refusal, goingOf, Advances, StepIs};
 ghost use Rattle.monitor.specs.Goes.{Goes};
+
+pub mod entry;
+
 use engine::cycle::Expected;
 use engine::cycle::Outcome;
 use engine::plan::Plan;
+pub use entry::advance;
 use table::Checked;
 use table::Refusal;
 
