@@ -1,4 +1,4 @@
--- What each pass of a cycle has to leave, in terms of the cycle as a function (crate lanes). Nothing here has to be believed.
+-- What each pass of a cycle has to leave, in terms of the cycle as a function (crate lanes); and that each answer is one (Unique). Nothing here has to be believed.
 pub mod Reads
 pub mod Truths
 pub mod Properties
@@ -32,3 +32,4 @@ pub mod CycleBegins
 pub mod CycleRight
 pub mod CycleFlags
 pub mod Cycled
+pub mod Unique

@@ -14,8 +14,8 @@ use Rattle.words.specs.Bits.{bit-none}
 use Rattle.words.specs.Sets.{WithBit}
 use Rattle.engine.specs.Cycled.{Standing, Cycled}
 use Rattle.monitor.specs.declared.Verdict.{Verdict}
-use Rattle.monitor.specs.Follows.{verdictOf}
-use Rattle.monitor.specs.Goes.{Goes, standing, goes-on, next-right}
+use Rattle.monitor.specs.Follows.{verdictOf, Turns}
+use Rattle.monitor.specs.Goes.{Goes, standing, next-right}
 
 -- the root, at the first cycle alone
 first-word : {n m root first : ℕ} → n ≡ m → root < 64 → WithBit 0 root (eqb n 0) first → (k : ℕ) → bit first k ≡ eqb k root && eqb m 0
@@ -38,11 +38,10 @@ module _ {t : List ℕ} {root booleans sides weaks : ℕ} {v : List ℕ} {held l
   first-is : (k : ℕ) → bit first k ≡ eqb k root && eqb (length v) 0
   first-is = first-word read (omega (arith, g .root-low, g .subset .layout .nodes-range)) word
 
-  pub turned : Right (propertyAt t root) v (pending (length v))
-      → Right (propertyAt t root) (v ++ x ∷ []) (verdictOf verdict) × Goes t root booleans sides weaks (v ++ x ∷ []) held′ live-a′ live-b′ families′
+  pub turned : Right (propertyAt t root) v (pending (length v)) → Turns g x verdict held′ live-a′ live-b′ families′
   turned r =
       let c = cycle (standing g first first-is) in
-      (subst (Right (propertyAt t root) (v ++ x ∷ [])) (ap (judged broke quiet) count ∙ sym says) (next-right g first first-is c r), goes-on g first first-is c)
+      record { right = subst (Right (propertyAt t root) (v ++ x ∷ [])) (ap (judged broke quiet) count ∙ sym says) (next-right g first first-is c r); keeps = c .represents }
     where
       count : suc (length v) ≡ n + 1
       count = omega arith

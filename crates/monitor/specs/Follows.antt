@@ -17,7 +17,8 @@ use Rattle.monitor.specs.declared.Going.{Going}
 use Rattle.monitor.specs.declared.Going.the-variants.{Over, After}
 use Rattle.little.specs.Bytes.{byteAt}
 use Rattle.words.specs.Sets.{HasFrom}
-use Rattle.monitor.specs.Goes.{Goes}
+use Rattle.engine.specs.CycleRight.{Represented}
+use Rattle.monitor.specs.Goes.{Goes, keptAfter}
 
 -- The verdict, as document 01 has it.
 abbrev pub verdictOf : Verdict → Psl.Verdict
@@ -44,16 +45,20 @@ signalsOf t = byteAt t 2
 abbrev pub refusal : ℕ → Answer
 refusal number = Refused (record { number = number; place = 0 })
 
--- A step from n cycles read, where one more can be counted: the answer is the new verdict, and that is right for the samples fed and this one.
+-- One sample more of a property that is pending and goes on: its verdict is right for the samples fed and this one, and the words hold what is then kept.
+pub record Turns {t : List ℕ} {root booleans sides weaks : ℕ} {v : List ℕ} {held live-a live-b : ℕ} {families : List ℕ} (g : Goes t root booleans sides weaks v held live-a live-b families)
+    (x : ℕ) (d : Verdict) (held′ live-a′ live-b′ : ℕ) (families′ : List ℕ) : Type 0 where
+  pub right : Right (propertyAt t root) (v ++ x ∷ []) (verdictOf d)
+  pub keeps : Represented t weaks (keptAfter g x) held′ live-a′ live-b′ families′
+
+-- A step from n cycles read, where one more can be counted: the answer is the new verdict.
 pub record Advances (t : List ℕ) (before : Monitor) (n x : ℕ) (answer : Answer) (after : Monitor) : Type 0 where
   pub answers : answer ≡ Given (after .stand .verdict)
   pub plan-stays : after .plan ≡ before .plan
-  pub right : (v : List ℕ) → n ≡ length v → Right (propertyAt t (before .plan .root)) v (pending (length v))
-      → Goes t (before .plan .root) (before .plan .booleans) (before .plan .sides) (before .plan .weaks) v (before .stand .expected .held) (before .stand .expected .live .a)
-      (before .stand .expected .live .b) (before .families)
-      → Right (propertyAt t (before .plan .root)) (v ++ x ∷ []) (verdictOf (after .stand .verdict))
-      × Goes t (before .plan .root) (before .plan .booleans) (before .plan .sides) (before .plan .weaks) (v ++ x ∷ []) (after .stand .expected .held) (after .stand .expected .live .a)
-      (after .stand .expected .live .b) (after .families)
+  pub turns : (v : List ℕ) → n ≡ length v → Right (propertyAt t (before .plan .root)) v (pending (length v))
+      → (g : Goes t (before .plan .root) (before .plan .booleans) (before .plan .sides) (before .plan .weaks) v (before .stand .expected .held) (before .stand .expected .live .a)
+      (before .stand .expected .live .b) (before .families))
+      → Turns g x (after .stand .verdict) (after .stand .expected .held) (after .stand .expected .live .a) (after .stand .expected .live .b) (after .families)
 
 -- The monitor of these parts.
 abbrev pub monitorOf : Plan → Stand → List ℕ → Monitor

@@ -14,13 +14,13 @@ use Rattle.table.specs.Trees.{propertyAt}
 use Rattle.table.specs.Subset.{Subset}
 use Rattle.table.specs.declared.Counts.{Counts}
 use Rattle.lanes.specs.State.{Kept}
-use Rattle.lanes.specs.Cycle.{Holds, holds-next, right-next}
+use Rattle.lanes.specs.Cycle.{kept-next, Holds, holds-next, right-next}
 use Rattle.engine.specs.Planned.{Planned}
 use Rattle.engine.specs.PlanView as W
 use Rattle.engine.specs.PlanProperty.{Proper, root-property}
 use Rattle.engine.specs.PlanState.{InPlace, next-in-place}
 use Rattle.engine.specs.CycleRight.{Represented}
-use Rattle.engine.specs.Cycled.{Standing, nextOf, Cycled}
+use Rattle.engine.specs.Cycled.{Standing, Cycled}
 
 module _ (t : List ℕ) (root booleans sides weaks : ℕ) where
   pub record Goes (v : List ℕ) (held live-a live-b : ℕ) (families : List ℕ) : Type 0 where
@@ -36,41 +36,46 @@ module _ (t : List ℕ) (root booleans sides weaks : ℕ) where
         (W.node t counts subset root booleans sides weaks plan root-low) (W.shape t counts subset root booleans sides weaks plan root-low)
         (W.down t counts subset root booleans sides weaks plan root-low) root (W.top t counts subset root booleans sides weaks plan root-low) v kept
 
-module _ {t : List ℕ} {root booleans sides weaks : ℕ} {v : List ℕ} {held live-a live-b : ℕ} {families : List ℕ} (g : Goes t root booleans sides weaks v held live-a live-b families)
-    (first : ℕ) (first-is : (n : ℕ) → bit first n ≡ eqb n root && eqb (length v) 0) where
-  -- the property as it stands before the next sample
-  abbrev pub standing : Standing t root booleans sides weaks first held live-a live-b families
-  standing = record {
+module _ {t : List ℕ} {root booleans sides weaks : ℕ} {v : List ℕ} {held live-a live-b : ℕ} {families : List ℕ} (g : Goes t root booleans sides weaks v held live-a live-b families) where
+  -- what is kept after the next sample
+  abbrev pub keptAfter : ℕ → Kept
+  keptAfter x = kept-next (W.row t (g .counts) (g .subset) root booleans sides weaks (g .plan) (g .root-low)) (W.row-table t (g .counts) (g .subset) root booleans sides weaks (g .plan) (g .root-low)) (W.node t (g .counts) (g .subset) root booleans sides weaks (g .plan) (g .root-low)) root (g .kept) (length v) x
+
+  -- IT GOES ON with the words of that
+  pub goes-on : (x : ℕ) {held′ live-a′ live-b′ : ℕ} {families′ : List ℕ} → Represented t weaks (keptAfter x) held′ live-a′ live-b′ families′
+      → Goes t root booleans sides weaks (v ++ x ∷ []) held′ live-a′ live-b′ families′
+  goes-on x r = record {
     counts = g .counts;
     subset = g .subset;
     plan = g .plan;
     root-low = g .root-low;
     root-proper = g .root-proper;
-    kept = g .kept;
-    in-place = g .in-place;
-    represented = g .represented;
-    time = length v;
-    first-is = first-is;
+    kept = keptAfter x;
+    in-place = next-in-place (W.row t (g .counts) (g .subset) root booleans sides weaks (g .plan) (g .root-low)) (W.row-table t (g .counts) (g .subset) root booleans sides weaks (g .plan) (g .root-low)) (W.node t (g .counts) (g .subset) root booleans sides weaks (g .plan) (g .root-low)) root (g .kept) (length v) x;
+    represented = r;
+    holds = holds-next (W.row t (g .counts) (g .subset) root booleans sides weaks (g .plan) (g .root-low)) (W.row-table t (g .counts) (g .subset) root booleans sides weaks (g .plan) (g .root-low)) (W.node t (g .counts) (g .subset) root booleans sides weaks (g .plan) (g .root-low)) (W.shape t (g .counts) (g .subset) root booleans sides weaks (g .plan) (g .root-low)) (W.down t (g .counts) (g .subset) root booleans sides weaks (g .plan) (g .root-low)) root (W.top t (g .counts) (g .subset) root booleans sides weaks (g .plan) (g .root-low)) v (g .kept) (g .holds) x;
   }
 
-  module _ {x held′ live-a′ live-b′ : ℕ} {families′ : List ℕ} {broke quiet : Bool} (c : Cycled standing x held′ live-a′ live-b′ families′ broke quiet) where
-    -- IT GOES ON with what the cycle leaves
-    pub goes-on : Goes t root booleans sides weaks (v ++ x ∷ []) held′ live-a′ live-b′ families′
-    goes-on = record {
+  module _ (first : ℕ) (first-is : (n : ℕ) → bit first n ≡ eqb n root && eqb (length v) 0) where
+    -- the property as it stands before the next sample
+    abbrev pub standing : Standing t root booleans sides weaks first held live-a live-b families
+    standing = record {
       counts = g .counts;
       subset = g .subset;
       plan = g .plan;
       root-low = g .root-low;
       root-proper = g .root-proper;
-      kept = nextOf standing x;
-      in-place = next-in-place (W.row t (g .counts) (g .subset) root booleans sides weaks (g .plan) (g .root-low)) (W.row-table t (g .counts) (g .subset) root booleans sides weaks (g .plan) (g .root-low)) (W.node t (g .counts) (g .subset) root booleans sides weaks (g .plan) (g .root-low)) root (g .kept) (length v) x;
-      represented = c .represents;
-      holds = holds-next (W.row t (g .counts) (g .subset) root booleans sides weaks (g .plan) (g .root-low)) (W.row-table t (g .counts) (g .subset) root booleans sides weaks (g .plan) (g .root-low)) (W.node t (g .counts) (g .subset) root booleans sides weaks (g .plan) (g .root-low)) (W.shape t (g .counts) (g .subset) root booleans sides weaks (g .plan) (g .root-low)) (W.down t (g .counts) (g .subset) root booleans sides weaks (g .plan) (g .root-low)) root (W.top t (g .counts) (g .subset) root booleans sides weaks (g .plan) (g .root-low)) v (g .kept) (g .holds) x;
+      kept = g .kept;
+      in-place = g .in-place;
+      represented = g .represented;
+      time = length v;
+      first-is = first-is;
     }
 
-    -- AND THE VERDICT is right for one sample more
-    pub next-right : Right (propertyAt t root) v (pending (length v)) → Right (propertyAt t root) (v ++ x ∷ []) (judged broke quiet (suc (length v)))
-    next-right r = subst (λ (f : Property). Right f (v ++ x ∷ []) (judged broke quiet (suc (length v)))) tree
+    -- THE VERDICT is right for one sample more
+    pub next-right : {x held′ live-a′ live-b′ : ℕ} {families′ : List ℕ} {broke quiet : Bool} → Cycled standing x held′ live-a′ live-b′ families′ broke quiet
+        → Right (propertyAt t root) v (pending (length v)) → Right (propertyAt t root) (v ++ x ∷ []) (judged broke quiet (suc (length v)))
+    next-right {x} {broke = broke} {quiet = quiet} c r = subst (λ (f : Property). Right f (v ++ x ∷ []) (judged broke quiet (suc (length v)))) tree
         (subst (λ (b : Bool). Right (propAt (W.node t (g .counts) (g .subset) root booleans sides weaks (g .plan) (g .root-low)) root) (v ++ x ∷ []) (judged b quiet (suc (length v)))) (sym (c .broken-is))
         (right-next (W.row t (g .counts) (g .subset) root booleans sides weaks (g .plan) (g .root-low)) (W.row-table t (g .counts) (g .subset) root booleans sides weaks (g .plan) (g .root-low)) (W.node t (g .counts) (g .subset) root booleans sides weaks (g .plan) (g .root-low)) (W.shape t (g .counts) (g .subset) root booleans sides weaks (g .plan) (g .root-low)) (W.down t (g .counts) (g .subset) root booleans sides weaks (g .plan) (g .root-low)) root (W.top t (g .counts) (g .subset) root booleans sides weaks (g .plan) (g .root-low)) v (g .kept) (g .holds) x (subst (λ (f : Property). Right f v (pending (length v))) (sym tree) r) (c .quiet-is)))
       where

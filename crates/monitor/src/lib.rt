@@ -1,7 +1,7 @@
 // The monitor of a property: opened on an accepted table, stepped once for each sample.
 ghost use mathlib.Core.Path.{_≡_};
-ghost use mathlib.Core.List.{List, [], _∷_, _++_};
-ghost use Prim.Native.Nat.{ℕ, suc, _<_};
+ghost use mathlib.Core.List.{List};
+ghost use Prim.Native.Nat.{ℕ, _<_};
 ghost use lib.ListN.{length};
 ghost use Rattle.psl.specs.Verdicts.{pending, Right};
 ghost use Rattle.psl.specs.Proof.Model.Verdicts.{judged};
@@ -11,11 +11,15 @@ ghost use Rattle.table.specs.Subset.{Subset};
 ghost use Rattle.table.specs.declared.Counts.{Counts};
 ghost use Rattle.monitor.specs.declared.Turned.the-variants.{Away, In};
 ghost use Rattle.monitor.specs.Opens.{Fresh, noPlan, Ready, OpenIs};
-ghost use Rattle.monitor.specs.Follows.{verdictOf, refusal, goingOf, monitorOf, Advances, DeclaredIs, StepIs};
+ghost use Rattle.monitor.specs.Follows.{verdictOf, refusal, goingOf, monitorOf, Turns, Advances, DeclaredIs, StepIs};
 ghost use Rattle.monitor.specs.Goes.{Goes};
+
+pub mod entry;
+
 use engine::cycle::Expected;
 use engine::cycle::Outcome;
 use engine::plan::Plan;
+pub use entry::advance;
 use table::Checked;
 use table::Refusal;
 
@@ -153,9 +157,8 @@ fn turn(
 ) -> Stand
     requires { ⌜ n < 4294967295 ⌝ }
     ensures { λ r. ⌜ ((v : List ℕ) → n ≡ length v → Right (propertyAt (now (table .entry)) (plan .root)) v (pending (length v))
-        → Goes (now (table .entry)) (plan .root) (plan .booleans) (plan .sides) (plan .weaks) v (expected .held) (expected .live .a) (expected .live .b) (now (families .entry))
-        → Right (propertyAt (now (table .entry)) (plan .root)) (v ++ sample ∷ []) (verdictOf (r .verdict))
-        × Goes (now (table .entry)) (plan .root) (plan .booleans) (plan .sides) (plan .weaks) (v ++ sample ∷ []) (r .expected .held) (r .expected .live .a) (r .expected .live .b) (now (families .exit))) ⌝ }
+        → (g : Goes (now (table .entry)) (plan .root) (plan .booleans) (plan .sides) (plan .weaks) v (expected .held) (expected .live .a) (expected .live .b) (now (families .entry)))
+        → Turns g sample (r .verdict) (r .expected .held) (r .expected .live .a) (r .expected .live .b) (now (families .exit))) ⌝ }
 {
     let first = words::with_bit(0, plan.root, n == 0);
     let o = engine::cycle::cycle(table, plan, expected, first, sample, &mut *families);

@@ -1,11 +1,14 @@
 -- Any two answers that a contract of this crate allows are equal. A word is below 2 ^ 64. (`bit` is given by an equation, and a Boolean that tells of a
 -- statement is one: `has-from-one`.)
-use Prim.Native.Nat.{ℕ, _^_, _<_}
+use Prim.Native.Nat.{ℕ, zero, suc, _+_, _^_, _<_}
+use native.Mathlib.Nat.{pow-suc, lt-of-lt-of-le}
 use native.Mathlib.Omega.{arith}
 use native.Mathlib.Decide.{decLt}
 use mathlib.Core.Path.{_≡_, refl, sym, _∙_, subst}
 use mathlib.Core.Bool.{Bool, true, false}
 use lib.Dec.{T}
+use lib.Pow.{pow-mono}
+use Rattle.psl.specs.Booleans.{bit}
 use Rattle.psl.specs.Proof.Decide.Tells.{Tells, tells-true, tells-false}
 use Rattle.words.specs.Bits.{same-bits}
 use Rattle.words.specs.Ends.{lowest-is, highest-is, highest-none}
@@ -13,6 +16,15 @@ use Rattle.words.specs.Sets.{WithBit, WithoutBit, HasFrom, Lowest, Highe
 
 clash : {b : Bool} → b ≡ true → b ≡ false → ⊥
 clash p q = subst T (sym p ∙ q) tt
+
+-- two numbers with the same bits are one, of whatever size
+pub same-number : (x y : ℕ) → ((k : ℕ) → bit x k ≡ bit y k) → x ≡ y
+same-number x y same =
+    same-bits (x + y) x y (lt-of-lt-of-le (small x) (pow-mono (omega arith))) (lt-of-lt-of-le (small y) (pow-mono (omega arith))) (λ k l. same k)
+  where
+    small : (n : ℕ) → n < 2 ^ n
+    small zero = omega arith
+    small (suc n) = let e = pow-suc 2 n in let l = small n in omega arith
 
 pub with-bit-one : (word index : ℕ) (on : Bool) (r s : ℕ) → r < 2 ^ 64 → s < 2 ^ 64 → WithBit word index on r → WithBit word index on s → r ≡ s
 with-bit-one word index on r s p q a b = same-bits 64 r s p q (λ k l. a .each k ∙ sym (b .each k))
