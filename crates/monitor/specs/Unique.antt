@@ -26,7 +26,7 @@ use Rattle.monitor.specs.declared.Verdict.{Verdict}
 use Rattle.monitor.specs.declared.Verdict.the-variants.{Broken, Settled, Pending}
 use Rattle.monitor.specs.Opens.{Fresh, Ready, OpenIs}
 use Rattle.monitor.specs.Goes.{Goes}
-use Rattle.monitor.specs.Follows.{verdictOf, stood-pending, Advances, DeclaredStep, StepIs}
+use Rattle.monitor.specs.Follows.{verdictOf, stood-pending, Advances, DeclaredStep, DeclaredIs, StepIs}
 use Rattle.monitor.specs.Fed.{StoodIn, Fed, fed-declared, fed-undeclared}
 
 monitor-one : (m m′ : Monitor) → m .plan ≡ m′ .plan → m .stand .verdict ≡ m′ .stand .verdict → m .stand .expected .held ≡ m′ .stand .expected .held
@@ -59,9 +59,9 @@ open-one t property turned turned′ m m′ = by (checkOf t)
       | no l ↦ (let a = p .0 (omega arith) in let b = q .0 (omega arith) in (a .0 ∙ sym (b .0), fresh-one _ m m′ (a .1) (b .1)))
     ]
 
--- ---- `step`, and `advance`, which says the same of the monitor lent to it
+-- ---- `declared_step`, `step`, and `advance`, which says the same of the monitor lent to it
 
-verdict-one : (d d′ : Verdict) → verdictOf d ≡ verdictOf d′ → d ≡ d′
+pub verdict-one : (d d′ : Verdict) → verdictOf d ≡ verdictOf d′ → d ≡ d′
 verdict-one (Broken n) (Broken m) e = cc
 verdict-one (Broken n) (Settled m) e = let z : _≡_ {A = ℕ} 0 1 = cc in absurd (omega arith)
 verdict-one (Broken n) (Pending m) e = let z : _≡_ {A = ℕ} 0 1 = cc in absurd (omega arith)
@@ -97,6 +97,9 @@ module _ (t : List ℕ) (counts : Counts) (property : ℕ) (v : List ℕ) (m : M
     | yes l ↦ advances-one n e right g (p .1 l) (q .1 l)
     | no l ↦ (let k : n ≡ 4294967295 = omega arith in (p .0 k .0 ∙ sym (q .0 k .0), p .0 k .1 ∙ sym (q .0 k .1)))
   ]
+
+  pub declared-step-one : DeclaredIs t m x r after → DeclaredIs t m x r′ after′ → One
+  declared-step-one p q = declared-one (m .stand .verdict) (f .stood) (p .steps) (q .steps)
 
   pub step-one : StepIs t m x r after → StepIs t m x r′ after′ → One
   step-one p q = elim (tells-dec (has-from x (counts .signals))) [

@@ -15,7 +15,7 @@ use Rattle.monitor.specs.Follows.{verdictOf}
 use Rattle.trace.specs.Trace.{samplesOf}
 use Rattle.trace.specs.Refusals.{checkedTrace}
 use Rattle.trace.specs.Judging.{Judged, no-table, no-property, no-trace, given}
-use Rattle.trace.specs.Feeding.{verdict-one}
+use Rattle.monitor.specs.Unique.{verdict-one}
 use Rattle.trace.specs.declared.refusals.TraceChecked.the-variants as Trace
 use denote.Ref.{RefT}
 use Rattle.trace.specs.Reader.{gives, moved}

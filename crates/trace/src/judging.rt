@@ -6,41 +6,52 @@ ghost use Rattle.table.specs.Check.{checkOf};
 ghost use Rattle.table.specs.declared.Counts.{Counts};
 ghost use Rattle.table.specs.declared.Checked.the-variants.{Accepted};
 ghost use Rattle.monitor.specs.Fed.{Fed};
-ghost use Rattle.trace.specs.Trace.{cyclesOf};
+ghost use Rattle.monitor.specs.Follows.{monitorOf, signalsOf};
+ghost use Rattle.trace.specs.Meaning.{Declared};
 ghost use Rattle.trace.specs.Judging.{Judged};
 ghost use Rattle.trace.specs.Feeding.{Stepping, Last};
 use crate::reader::Next;
 use crate::reader::next_at;
 use crate::refusals::TraceChecked;
 use crate::refusals::check_trace;
+use engine::plan::Plan;
 use monitor::Answer;
 use monitor::Monitor;
+use monitor::Stand;
 use monitor::Turned;
 use monitor::Verdict;
 
-// The monitor fed the sample at a place.
-fn fed(table: &[u8], trace: &[u8], at: u32, monitor: Monitor) -> Monitor
-    ensures { λ r. ⌜ Stepping (now (table .entry)) (now (trace .entry)) at monitor r ⌝ }
+// How the property stands with the sample at a place.
+fn fed(
+    table: &[u8],
+    trace: &[u8],
+    at: u32,
+    plan: Plan,
+    stand: Stand,
+    families: &mut [u64; 32],
+) -> Stand
+    ensures { λ r. ⌜ Stepping (now (table .entry)) (now (trace .entry)) at (monitorOf plan stand (now (families .entry))) (monitorOf plan r (now (families .exit))) ⌝ }
 {
     let next = next_at(trace, at);
     let Next::Sample(sample) = next else {
-        return monitor;
+        return stand;
     };
-    let stepped = monitor::step(table, monitor, sample);
-    stepped.monitor
+    let told = monitor::declared_step(table, plan, stand, sample, &mut *families);
+    told.stand
 }
 
-// The verdict after so many samples.
+// The verdict after so many samples, all of them declared.
 fn last(table: &[u8], trace: &[u8], cycles: u32, monitor: Monitor) -> Verdict
-    ensures { λ r. ⌜ (cycles ≡ cyclesOf (now (trace .entry)) → Last (now (table .entry)) (now (trace .entry)) monitor cycles r) ⌝ }
+    ensures { λ r. ⌜ (Declared (signalsOf (now (table .entry))) (now (trace .entry)) cycles → Last (now (table .entry)) (now (trace .entry)) monitor cycles r) ⌝ }
 {
-    let mut standing = monitor;
+    let plan = monitor.plan;
+    let mut stand = monitor.stand;
+    let mut families = monitor.families;
     let mut at: u32 = 0;
     while at < cycles {
-        standing = fed(table, trace, at, standing);
+        stand = fed(table, trace, at, plan, stand, &mut families);
         at += 1;
     }
-    let stand = standing.stand;
     stand.verdict
 }
 

@@ -5,7 +5,6 @@ use Rattle.trace.proofs.judging.fed.Statement.{statement}
 use Rattle.trace.proofs.judging.fed.Tie as tie
 use Rattle.trace.proofs.judging.fed.Reads as reads
 use Rattle.trace.proofs.judging.fed.Lts as lts
-use Rattle.monitor.proofs.step.Reads as step-reads
 use Rattle.trace.proofs.reader.next_at.Reads as next-at-reads
 
 -- src/judging.rt:25:9
@@ -25,13 +24,13 @@ returns : tie.Need-returns
 returns c = no-more _ _ _ _ (sym (c .before .before .next-at .ensures) ∙ c .enum-told .given .1)
 
 -- src/judging.rt:29:9
-step-requires : tie.Need-step-requires
-step-requires c κs = search needs
+declared-step-requires : tie.Need-declared-step-requires
+declared-step-requires c κs = search needs
 
 -- src/judging.rt:22:1
 returns-2 : tie.Need-returns-2
-returns-2 c = one-more _ _ _ _ (sym (c .before .before .before .before .before .next-at .ensures) ∙ c .before .before .before .next .given .1) (c .before .step .ensures)
+returns-2 c = one-more _ _ _ _ (sym (c .before .before .before .before .before .before .next-at .ensures) ∙ c .before .before .before .before .next .given .1) (c .before .declared-step .ensures)
 
 pub fed-spec : {M : Type 1} → statement M
 fed-spec =
-    tie.close (tie.spec next-at-requires enum-known-next enum-told returns step-requires returns-2)
+    tie.close (tie.spec next-at-requires enum-known-next enum-told returns declared-step-requires returns-2)
