@@ -1,5 +1,5 @@
 -- A cycle with no left sides or no weak sequences, and what the passes over weak sequences come to.
-use Prim.Native.Nat.{ℕ, zero, suc, _-_, _≤_, _<_, _^_}
+use Prim.Native.Nat.{ℕ, _-_, _≤_, _<_, _^_}
 use mathlib.Core.Path.{_≡_, refl, sym, _∙_, ap, subst}
 use mathlib.Core.Bool.{Bool, true, false, not, _&&_}
 use mathlib.Core.List.{List}
@@ -7,7 +7,7 @@ use mathlib.Core.Logic.{inl, inr, ⊎-elim}
 use native.Mathlib.Omega.{arith}
 use lib.Dec.{T, eqb}
 use lib.Bits.{bitAnd, bitOr, and-lt}
-use lib.ListN.{getD, replicate}
+use lib.ListN.{getD}
 use Rattle.psl.specs.Booleans.{bit}
 use Rattle.psl.specs.Proof.Decide.Tells.{Tells, tells-and, tells-or, tells-eq, tells-iff, tells-value, tells-not-value, tells-true, true-tells}
 use Rattle.words.specs.Bits.{bit-none, bit-and, bit-or}
@@ -40,11 +40,6 @@ none-up t row live sides x lefts e = record {
   ends-are = λ n h. no-bit n e h;
   early-are = λ n h. no-bit n e h;
 }
-
-pub blank : (n i : ℕ) → _≡_ {A = ℕ} (getD (replicate n 0) i 0) 0
-blank zero i = refl
-blank (suc n) zero = refl
-blank (suc n) (suc i) = blank n i
 
 -- The families that are moved are those that were met, since there are at most 32.
 pub weaks-left : {t : List ℕ} {row : ℕ → Row} {rows : Table row} {booleans weaks truth begin x : ℕ} {live : ℕ → Bool → Bool} {enter : ℕ → Bool} {acts counts tops leads old new : List ℕ} {count few all : ℕ} (empty : List ℕ)

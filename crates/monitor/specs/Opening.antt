@@ -1,13 +1,14 @@
 -- A property that was opened goes on from nothing.
-use Prim.Native.Nat.{ℕ, zero, suc, _<_}
+use Prim.Native.Nat.{ℕ, _<_}
 use native.Mathlib.Omega.{arith}
 use native.Mathlib.Decide.{decLt}
 use mathlib.Core.Path.{_≡_, refl, _∙_, ap}
 use mathlib.Core.Bool.{Bool, true, false}
 use mathlib.Core.List.{List, []}
-use lib.ListN.{getD, replicate}
+use lib.ListN.{replicate}
 use Rattle.psl.specs.Booleans.{bit}
 use Rattle.table.specs.Choice.{pick}
+use Rattle.table.specs.Laws.Zeros.{zeros}
 use Rattle.table.specs.Kinds.{classOf}
 use Rattle.table.specs.declared.kinds.Class.the-variants.{Sequence}
 use Rattle.table.specs.Subset.{Subset, kindAt}
@@ -36,18 +37,13 @@ sequence-class k l m = elim (decLt k 17) [
     at : (j : ℕ) → k ≡ j → classOf j ≡ Sequence → classOf k ≡ Sequence
     at j e r = ap classOf e ∙ r
 
-blank : (n i : ℕ) → _≡_ {A = ℕ} (getD (replicate n 0) i 0) 0
-blank zero i = refl
-blank (suc n) zero = refl
-blank (suc n) (suc i) = blank n i
-
 nothing-kept : (t : List ℕ) (weaks : ℕ) → Represented t weaks nothing 0 0 0 (replicate 32 0)
 nothing-kept t weaks = record {
   held-is = bit-none;
   live-is = dark;
-  sets-are = λ n w k s l. ap (λ (word : ℕ). bit word s) (blank 32 (weakNumber t weaks n)) ∙ bit-none s;
+  sets-are = λ n w k s l. ap (λ (word : ℕ). bit word s) (zeros 32 (weakNumber t weaks n)) ∙ bit-none s;
   size = refl;
-  spare = λ w none. blank 32 w;
+  spare = λ w none. zeros 32 w;
 }
   where
     dark : (n : ℕ) (f : Bool) → liveIn 0 0 n f ≡ false

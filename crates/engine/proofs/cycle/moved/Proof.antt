@@ -1,7 +1,8 @@
 use borrow.Author.Needs.{needs}
 use lib.ListN.{replicate}
+use Rattle.table.specs.Laws.Zeros.{zeros}
 use Rattle.engine.specs.CycleWeaks.{no-weaks}
-use Rattle.engine.proofs.CycleLaws.{blank, weaks-left}
+use Rattle.engine.proofs.CycleLaws.{weaks-left}
 use Rattle.engine.proofs.cycle.moved.Statement.{statement}
 use Rattle.engine.proofs.cycle.moved.Tie as tie
 
@@ -21,7 +22,7 @@ families-requires : tie.Need-families-requires
 families-requires c κs = search needs
 
 returns-2 : tie.Need-returns-2
-returns-2 c = λ row rows x live enter told. weaks-left (replicate 256 0) told (c .before .before .before .before .before .before .before .before .before .before .before .before .before .upward .ensures) (c .before .before .before .before .before .downward .ensures) (blank 256) (c .before .before .before .before .at-most-32 .ensures .1) (c .families .ensures)
+returns-2 c = λ row rows x live enter told. weaks-left (replicate 256 0) told (c .before .before .before .before .before .before .before .before .before .before .before .before .before .upward .ensures) (c .before .before .before .before .before .downward .ensures) (zeros 256) (c .before .before .before .before .at-most-32 .ensures .1) (c .families .ensures)
 
 pub moved-spec : {M : Type 1} → statement M
 moved-spec =
