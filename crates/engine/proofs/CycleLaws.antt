@@ -15,7 +15,7 @@ use Rattle.words.specs.Sets.{HasFrom}
 use Rattle.lanes.specs.Rows.{Row}
 use Rattle.lanes.specs.Expected.{Table}
 use Rattle.engine.specs.Reads.{Held, Within}
-use Rattle.engine.specs.Sides.{SidesUp, OverSides}
+use Rattle.engine.specs.Sides.{SidesUp, OverSides, SidesDown}
 use Rattle.engine.specs.WeakParts.{WeaksUp}
 use Rattle.engine.specs.WeakPass.{WeaksDown}
 use Rattle.engine.specs.Families.{Moved}
@@ -40,6 +40,9 @@ none-up t row live sides x lefts e = record {
   ends-are = λ n h. no-bit n e h;
   early-are = λ n h. no-bit n e h;
 }
+
+pub none-down : (row : ℕ → Row) (table : Table row) (live : ℕ → Bool → Bool) (sides x : ℕ) (enter : ℕ → Bool) → sides ≡ 0 → SidesDown row table live sides x enter 0 0
+none-down row table live sides x enter e = record { next-is = λ n h f. no-bit n e h }
 
 -- The families that are moved are those that were met, since there are at most 32.
 pub weaks-left : {t : List ℕ} {row : ℕ → Row} {rows : Table row} {booleans weaks truth begin x : ℕ} {live : ℕ → Bool → Bool} {enter : ℕ → Bool} {acts counts tops leads old new : List ℕ} {count few all : ℕ} (empty : List ℕ)

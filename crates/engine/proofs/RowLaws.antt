@@ -1,18 +1,15 @@
 -- Where the fields of a row stand, and which rows the bytes hold.
-use Prim.Native.Nat.{ℕ, _+_, _*_, _<_}
+use Prim.Native.Nat.{ℕ, _+_, _*_, _^_, _<_}
 use native.Mathlib.Omega.{arith}
 use native.Mathlib.Decide.{decLt}
-use mathlib.Core.Path.{_≡_, refl, sym, _∙_, ap, subst}
-use mathlib.Core.Bool.{Bool, true, false, _||_}
+use mathlib.Core.Path.{_≡_, refl, ap}
+use mathlib.Core.Bool.{Bool, true, false, not}
 use mathlib.Core.List.{List}
-use lib.Dec.{T, eqb, ltb}
-use lib.ListN.{length, getD}
-use borrow.Author.Tests.{eqb-true, eqb-false}
-use Rattle.psl.specs.Booleans.{bit}
-use Rattle.psl.specs.Proof.Decide.Tells.{Tells, does, doesnt, tells-iff, tells-eq, tells-lt}
+use lib.ListN.{getD}
+use Rattle.psl.specs.Proof.Decide.Tells.{Tells, does, doesnt}
 use Rattle.table.specs.Rows.{rowAt, edgeRow}
-use Rattle.words.specs.Sets.{Highest}
-use Rattle.words.specs.Bits.{bit-none}
+use Rattle.words.specs.Sets.{HasFrom}
+use Rattle.words.specs.Bits.{set-below}
 use Rattle.engine.specs.Reads.{kindOf, aOf, bOf, cOf, Held, Within}
 
 module _ (t : List ℕ) (n : ℕ) where
@@ -32,13 +29,10 @@ module _ (t : List ℕ) (n : ℕ) where
   unfolding rowAt edgeRow
   c-read = let e : 19 + 4 * n ≡ 16 + 4 * n + 3 = omega arith in ap (λ (k : ℕ). getD t k 0) e
 
--- The bytes hold each row of a set where they hold the highest.
-pub covers-is : (t : List ℕ) (rows top : ℕ) → Highest rows top → Tells (Within t rows) (eqb rows 0 || ltb (19 + 4 * top) (length t))
-covers-is t rows top high = go (eqb rows 0) (tells-eq rows 0)
+-- The bytes hold each row of a set where the set has no row from the first on that they do not hold.
+pub covers-is : (t : List ℕ) (rows count : ℕ) (b : Bool) → rows < 2 ^ 64 → ((n : ℕ) → n < 64 → (n < count → Held t n) × (Held t n → n < count)) → Tells (HasFrom rows count) b → Tells (Within t rows) (not b)
+covers-is t rows count true fits counts (does h) = doesnt (λ w. apart (counts (h .0) (set-below 64 rows (h .0) fits (h .2)) .1 (w (h .0) (h .2))))
   where
-    below : Held t top → Within t rows
-    below l n set = elim (decLt top n) [ yes g ↦ absurd (subst T (sym set ∙ high .above n g) tt) | no g ↦ omega arith ]
-
-    go : (b : Bool) → Tells (rows ≡ 0) b → Tells (Within t rows) (b || ltb (19 + 4 * top) (length t))
-    go true (does e) = does (λ n set. absurd (subst T (sym set ∙ ap (λ (w : ℕ). bit w n) e ∙ bit-none n) tt))
-    go false (doesnt ne) = tells-iff below (λ w. w top (high .set (elim (decLt 0 rows) [ yes s ↦ s | no s ↦ absurd (ne (omega arith)) ]))) (tells-lt (19 + 4 * top) (length t))
+    apart : h .0 < count → ⊥
+    apart l = omega (arith, h .1)
+covers-is t rows count false fits counts (doesnt none) = does (λ n set. elim (decLt n count) [ yes l ↦ counts n (set-below 64 rows n fits set) .0 l | no l ↦ absurd (none (n, omega arith, set)) ])

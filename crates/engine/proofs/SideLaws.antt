@@ -11,7 +11,8 @@ use Rattle.psl.specs.Booleans.{bit}
 use Rattle.lanes.specs.UpPass.{Part, cell-part, then-part, fuse-part, alt-part, loop-part}
 use Rattle.lanes.specs.Uses.{Use, ended-lanes, then-use, fuse-use, loop-use}
 use Rattle.engine.specs.Sides.{one-if, sideCode, useCode}
-use Rattle.engine.specs.SideSteps.{has, Pair, Loop, Handed}
+use Rattle.engine.specs.Reads.{kindOf}
+use Rattle.engine.specs.SideSteps.{has, Seen, SecondOf, Pair, Loop, PartOf, Right, Handed}
 
 -- ---- a test at each Boolean
 
@@ -88,11 +89,20 @@ has-go w = go (w .into 7) (w .go 7)
 
 -- ---- up
 
-pub seen-cell : (on live : Bool) → bitOr (one-if on 1) (one-if live (doubled (bitAnd (one-if on 1) 1))) ≡ sideCode (cell-part on live)
-seen-cell true true = refl
-seen-cell true false = refl
-seen-cell false true = refl
-seen-cell false false = refl
+module _ {part : ℕ} where
+  pub seen-expected : {on live : Bool} → live ≡ true → Seen part on live (one-if on 3)
+  seen-expected {on} {live} e = record { cell-is = λ p. rw e (go on); row-is = λ f. absurd (subst T (sym e ∙ f) tt) }
+    where
+      go : (on : Bool) → one-if on 3 ≡ sideCode (cell-part on true)
+      go true = refl
+      go false = refl
+
+  pub seen-part : {on live : Bool} → live ≡ false → Seen part on live part
+  seen-part {on} {live} e = record { cell-is = λ p. p ∙ rw e (go on); row-is = λ f. refl }
+    where
+      go : (on : Bool) → one-if on 1 ≡ sideCode (cell-part on false)
+      go true = refl
+      go false = refl
 
 module _ (x y : Part) where
   -- where neither can be empty
@@ -112,6 +122,17 @@ module _ (x y : Part) where
 
       test : Bool → Bool → Bool → Bool → Bool → Bool → Bool
       test a b c d e f = eqb (number (code a b c) (code d e f)) (code ((a && f) || (c && d)) (e || (f && b)) (c && f))
+
+  -- where the second is an expected cell
+  pub then-cell : (on : Bool) → one-if on 3 ≡ sideCode y → one-if on (bitOr 2 (bitAnd (sideCode x) 4 / 2 ^ 2)) ≡ sideCode (then-part x y)
+  then-cell true e = eqb→eq _ _ (so (eqb 3 (sideCode y)) _ (every6 test tt (x .early) (x .ends 7) (x .empty) (y .early) (y .ends 7) (y .empty)) (rw (← e) refl))
+    where
+      test : Bool → Bool → Bool → Bool → Bool → Bool → Bool
+      test a b c d e f = not (eqb 3 (code d e f)) || eqb (bitOr 2 (bitAnd (code a b c) 4 / 2 ^ 2)) (code ((a && f) || (c && d)) (e || (f && b)) (c && f))
+  then-cell false e = eqb→eq _ _ (so (eqb 0 (sideCode y)) _ (every6 test tt (x .early) (x .ends 7) (x .empty) (y .early) (y .ends 7) (y .empty)) (rw (← e) refl))
+    where
+      test : Bool → Bool → Bool → Bool → Bool → Bool → Bool
+      test a b c d e f = not (eqb 0 (code d e f)) || eqb 0 (code ((a && f) || (c && d)) (e || (f && b)) (c && f))
 
   pub fuse-is : bitOr (bitAnd (sideCode y) 2) (one-if (has 1 (sideCode y)) (bitAnd (sideCode x) 3)) ≡ sideCode (fuse-part x y)
   fuse-is = eqb→eq _ _ (every6 test tt (x .early) (x .ends 7) (x .empty) (y .early) (y .ends 7) (y .empty))
@@ -158,6 +179,20 @@ module _ (x : Part) (w : Use) (o : w .owner ≡ 64) where
       test : Bool → Bool → Bool → Bool → Bool → Bool → Bool
       test a b c i g z = eqb (bitAnd (bitOr (code a b c) (doubled (bitAnd (bitAnd (code a b c) (use-code i g)) 1))) 2) (one-if (b || (a && i)) 2)
 
+  -- a ; b, where a neither ends nor can be empty, nor ends at once
+  pub then-use-none : sideCode x ≡ 0 → 0 ≡ useCode (then-use x w)
+  then-use-none e = rw ended-seven (eqb→eq _ _ (so (eqb (sideCode x) 0) _ (every6 test tt (x .early) (x .ends 7) (x .empty) (w .into 7) (w .go 7) false) (rw e refl)))
+    where
+      test : Bool → Bool → Bool → Bool → Bool → Bool → Bool
+      test a b c i g z = not (eqb (code a b c) 0) || eqb 0 (use-code (c && i) ((b || (a && i)) || (c && g)))
+
+  -- a ; b, where an attempt under way ends a, which cannot be empty
+  pub then-use-ends : bitAnd (sideCode x) 6 ≡ 2 → 2 ≡ useCode (then-use x w)
+  then-use-ends e = rw ended-seven (eqb→eq _ _ (so (eqb (bitAnd (sideCode x) 6) 2) _ (every6 test tt (x .early) (x .ends 7) (x .empty) (w .into 7) (w .go 7) false) (rw e refl)))
+    where
+      test : Bool → Bool → Bool → Bool → Bool → Bool → Bool
+      test a b c i g z = not (eqb (bitAnd (code a b c) 6) 2) || eqb 2 (use-code (c && i) ((b || (a && i)) || (c && g)))
+
 module _ (x : Part) (w : Use) where
   pub then-use-is : bitOr (one-if (ended-lanes x w 7) 2) (one-if (has 4 (sideCode x)) (useCode w)) ≡ useCode (then-use x w)
   then-use-is = eqb→eq _ _ (every6 test tt (x .early) (x .ends 7) (x .empty) (w .into 7) (w .go 7) (ended-lanes x w 7))
@@ -194,6 +229,17 @@ module _ {kind a r : ℕ} where
     fuse-is = λ k x y e s. p .fuse-is (same ∙ k) x y e (f y s);
     alt-is = λ k x y e s. p .alt-is (same ∙ k) x y e (f y s);
   }
+
+-- the part of a row that is a ; b
+pub then-found : {t : List ℕ} {truth word : ℕ} {parts : List ℕ} {n a r : ℕ} → kindOf t n ≡ 16
+    → ((x y : Part) → a ≡ sideCode x → SecondOf t truth word parts n y → r ≡ sideCode (then-part x y)) → PartOf t truth word parts n a r
+then-found e h = record {
+  pair = record { then-is = λ k. h; fuse-is = λ k x y p q. absurd (omega arith); alt-is = λ k x y p q. absurd (omega arith) };
+  loop = loop-none (omega arith);
+}
+
+pub right-at : {kind to a used r : ℕ} → kind ≡ to → Right kind a used r → Right to a used r
+right-at {a = a} {used = used} {r = r} e h = subst (λ (k : ℕ). Right k a used r) e h
 
 -- handing on keeps the length of uses
 pub handed-length : {n v used booleans word word′ : ℕ} {uses uses′ : List ℕ} → Handed n v used booleans word uses word′ uses′ → length uses′ ≡ length uses

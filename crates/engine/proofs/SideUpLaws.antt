@@ -66,8 +66,8 @@ pub over-sides : (t : List ℕ) (sides left word : ℕ) → Over (λ k. 32 ≤ k
 over-sides t sides left word o k e = let h = o k e in (h .0, h .2)
 
 -- one row
-module _ {t : List ℕ} {la lb sides left n rest : ℕ} {parts parts′ lefts lefts′ : List ℕ} {ends early ends′ early′ : ℕ}
-    (safe : UpSafe t sides left parts lefts ends early) (turn : Turn left n rest) (u : Upped t la lb parts parts′ lefts lefts′ n ends early ends′ early′) where
+module _ {t : List ℕ} {truth la lb sides left n rest : ℕ} {parts parts′ lefts lefts′ : List ℕ} {ends early ends′ early′ : ℕ}
+    (safe : UpSafe t sides left parts lefts ends early) (turn : Turn left n rest) (u : Upped t truth la lb parts parts′ lefts lefts′ n ends early ends′ early′) where
   here : bit sides n ≡ true
   here = safe .left-in n (turn .set)
 
@@ -148,7 +148,7 @@ module _ (t : List ℕ) (row : ℕ → Row) (live : ℕ → Bool → Bool) (bool
   module _ (sound : Sound row) (all : SideRows t row booleans sides truth x) {la lb : ℕ} (words : LiveWords sides live la lb) (lit : LiveAtCells row live)
       {left n rest : ℕ} {parts parts′ lefts lefts′ : List ℕ} {ends early ends′ early′ : ℕ}
       (safe : UpSafe t sides left parts lefts ends early) (low : Lowest left n) (turn : Turn left n rest)
-      (u : Upped t la lb parts parts′ lefts lefts′ n ends early ends′ early′) (h : UpSofar left parts lefts ends early) where
+      (u : Upped t truth la lb parts parts′ lefts lefts′ n ends early ends′ early′) (h : UpSofar left parts lefts ends early) where
     own : SideRow t row booleans sides truth x n
     own = all n (here safe turn u)
 
@@ -164,12 +164,12 @@ module _ (t : List ℕ) (row : ℕ → Row) (live : ℕ → Bool → Bool) (bool
         go false e = refl
 
     -- what is seen in a field is what is found of its operand
-    seen-right : (word : ℕ) (f : Bool) → bit word n ≡ live n f → (v r : ℕ) → Has (row n) f v → SideOperand t row booleans sides truth x n v → SeenAt parts word n v r
+    seen-right : (word : ℕ) (f : Bool) → bit word n ≡ live n f → (v r : ℕ) → Has (row n) f v → SideOperand t row booleans sides truth x n v → SeenAt parts truth word n v r
         → r ≡ sideCode (operand row live (sample x) part n f v)
     seen-right word f w v r i (is-cell {b = b} l m e k) s =
         let p : v % 64 ≡ v = omega arith in
-        rw e (s .cell-is (bit truth v) (ap (λ (j : ℕ). getD parts j 0) p ∙ h .cells v b m e)
-        ∙ ap₂ (λ (on lives : Bool). sideCode (cell-part on lives)) k (ap (bit word) small ∙ w))
+        rw e (s .cell-is (ap (λ (j : ℕ). getD parts j 0) p ∙ h .cells v b m e ∙ ap (λ (j : ℕ). one-if (bit truth j) 1) (sym p))
+        ∙ ap₂ (λ (on lives : Bool). sideCode (cell-part on lives)) (ap (bit truth) p ∙ k) (ap (bit word) small ∙ w))
     seen-right word f w v r i (is-row l z s k) seen =
         let p : v % 64 ≡ v = omega (arith, turn .small) in
         let q = sequence-row (all v s) k in
@@ -179,7 +179,7 @@ module _ (t : List ℕ) (row : ℕ → Row) (live : ℕ → Bool → Bool) (bool
     first-right : u .first ≡ sideCode (first n)
     first-right = let o = first-operand own in seen-right la false (words n (here safe turn u) false) (aOf t n) (u .first) (o .0) (o .1) (u .seen)
 
-    part-right : kindOf t n < 32 → (p : ℕ) → PartOf t lb parts n (u .first) p → p ≡ sideCode (part n)
+    part-right : kindOf t n < 32 → (p : ℕ) → PartOf t truth lb parts n (u .first) p → p ≡ sideCode (part n)
     part-right l p po = by own
       where
         by : SideRow t row booleans sides truth x n → p ≡ sideCode (part n)

@@ -1,15 +1,17 @@
 -- The truth of the Boolean rows, row by row upwards.
-use Prim.Native.Nat.{ℕ, _%_, _<_}
-use native.Mathlib.Nat.{mod-eq-of-lt}
+use Prim.Native.Nat.{ℕ, zero, suc, _*_, _%_, _^_, _<_}
+use native.Mathlib.Nat.{mod-eq-of-lt, one-mul, zero-mul}
 use native.Mathlib.Omega.{arith}
 use mathlib.Core.Path.{_≡_, refl, sym, _∙_, ap, ap₂, subst}
 use mathlib.Core.Bool.{Bool, true, false, not, _&&_, _||_}
 use mathlib.Core.List.{List}
+use lib.Bits.{bitOr, or-zero-r}
 use lib.Dec.{T, eqb}
+use lib.Pow.{shl-exact}
 use borrow.Author.Tests.{eqb-true, ne-eqb, eq-eqb}
 use Rattle.psl.specs.Booleans.{Boolean, bit, holds}
 use Rattle.table.specs.Choice.{pick}
-use Rattle.words.specs.Bits.{bit-none}
+use Rattle.words.specs.Bits.{bit-none, bit-on}
 use Rattle.words.specs.Sets.{WithBit, Lowest, Without}
 use Rattle.words.specs.Walk.{Turn, turn-up, rest-in, Left, left-start, left-turn, left-end}
 use Rattle.engine.specs.Reads.{kindOf, aOf, bOf}
@@ -17,6 +19,24 @@ use Rattle.engine.specs.Truths.{BooleanRow, reads-true, reads-false, rea
 
 pub clash : {A : Type 0} {b : Bool} → b ≡ true → b ≡ false → A
 clash p q = absurd (subst T (sym p ∙ q) tt)
+
+-- A digit put into a word.
+pub digit-is : (word index d : ℕ) → d < 2 → WithBit word index (eqb d 1) (bitOr word (d * 2 ^ (index % 64) % 2 ^ 64))
+digit-is word index zero l = record { each = λ k. rw (zero-mul, or-zero-r) (or-none (bit word k)) }
+  where
+    or-none : (b : Bool) → b ≡ b || false
+    or-none true = refl
+    or-none false = refl
+digit-is word index (suc zero) l = record { each = λ k. rw shifted (bit-on word (index % 64) k) }
+  where
+    shifted : 1 * 2 ^ (index % 64) % 2 ^ 64 ≡ 2 ^ (index % 64)
+    shifted = shl-exact {a = 1} 1 (index % 64) 64 (omega arith) (omega arith) ∙ one-mul (2 ^ (index % 64))
+digit-is word index (suc (suc d)) l = absurd (omega arith)
+
+-- A row that is a signal.
+pub signal-row : (t : List ℕ) (n truth sample : ℕ) {r : ℕ} → eqb (kindOf t n) 3 ≡ true → WithBit truth n (bit sample (aOf t n % 64)) r → WithBit truth n (holdsAt t n truth sample) r
+unfolding holdsAt pick
+signal-row t n truth sample e h = rw e h
 
 -- A row of the set, where smaller rows of the set are right.
 module _ (t : List ℕ) (booleans truth x : ℕ) (value : ℕ → Boolean) where

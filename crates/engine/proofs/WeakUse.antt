@@ -1,17 +1,17 @@
 -- The uses of the rows of weak sequences, downwards: what is handed on is what the operands are to get.
-use Prim.Native.Nat.{ℕ, _+_, _*_, _%_, _≤_, _<_}
+use Prim.Native.Nat.{ℕ, _+_, _*_, _%_, _^_, _≤_, _<_}
 use native.Mathlib.Nat.{mod-eq-of-lt, add-assoc, sub-zero}
 use native.Mathlib.Omega.{arith}
 use native.Mathlib.Decide.{decLt}
 use mathlib.Core.Path.{_≡_, refl, sym, _∙_, ap, ap₂, subst}
 use mathlib.Core.List.{List}
 use mathlib.Core.Bool.{Bool, true, false, not, _&&_, _||_, and-true, and-false}
-use lib.Bits.{bitOr, bitAnd}
+use lib.Bits.{bitOr, bitAnd, or-zero-r}
 use lib.Dec.{T, eqb, ltb}
 use lib.ListN.{getD, set, length-set}
 use borrow.Author.Tests.{lt-ltb, le-ltb, ne-eqb}
 use Rattle.psl.specs.Booleans.{bit}
-use Rattle.words.specs.Bits.{bit-none, bit-or, bit-mod, bit-one}
+use Rattle.words.specs.Bits.{bit-none, bit-high, bit-or, bit-mod, bit-one}
 use Rattle.lanes.specs.ShiftedLanes.{shifted}
 use Rattle.lanes.specs.UpPass.{Part, placed, placed-low}
 use Rattle.lanes.specs.Uses.{Use, owned, ended-lanes, base-after}
@@ -78,6 +78,15 @@ then-use-is act count place into go q x e y Q X E Y owns number p u P U fits = r
   go-are = λ l h. bit-or e y l ∙ ap₂ _||_ (E owns number p u (P .act-is) U l h)
       (ap (λ (w : ℕ). bit w l) Y ∙ only-bit (not (eqb (bitAnd act 128) 0)) go l ∙ ap₂ _&&_ (tested act 7 ∙ P .act-is .empty-is) (U .go-are l h));
 }
+
+-- a can neither be empty nor end at once
+pub then-use-plain : (act count place into go q s : ℕ) → act < 64 → q ≡ (place + count % 8) % 256 → Shifted act place s → ThenUse act count place into go q 0 s
+then-use-plain act count place into go q s low Q S =
+    subst (λ (z : ℕ). ThenUse act count place into go q 0 z) (or-zero-r (bitOr s 0) ∙ or-zero-r s)
+    (then-use-is act count place into go q 0 (bitOr s 0) 0 Q (none 7 into (omega arith)) (ends-is act place into go s 0 S (none 6 into (omega arith))) (none 7 go (omega arith)))
+  where
+    none : (i x : ℕ) → 6 ≤ i → 0 ≡ only-if (not (eqb (bitAnd act (2 ^ i)) 0)) x
+    none i x h = rw (tested act i, bit-high 6 act i low h) refl
 
 pub fuse-use-is : (act count place into go q e : ℕ) → q ≡ (place + count % 8) % 256 → Ends act place into go e → FuseUse act count place into go q e 0
 fuse-use-is act count place into go q e Q E owns number p u P U fits = record {

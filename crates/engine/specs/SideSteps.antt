@@ -25,13 +25,17 @@ pub record CellsFound (booleans truth : ℕ) (parts : List ℕ) : Type 0 where
   pub each : (v : ℕ) → bit booleans v ≡ true → getD parts v 0 ≡ one-if (bit truth v) 1
 
 -- What is found where a part is used: at a cell an expected one that holds ends it; a part at which no cell is expected stays.
-pub record Seen (part : ℕ) (live : Bool) (r : ℕ) : Type 0 where
-  pub cell-is : (on : Bool) → part ≡ one-if on 1 → r ≡ sideCode (cell-part on live)
+pub record Seen (part : ℕ) (holds live : Bool) (r : ℕ) : Type 0 where
+  pub cell-is : part ≡ one-if holds 1 → r ≡ sideCode (cell-part holds live)
   pub row-is : live ≡ false → r ≡ part
 
 -- What row n finds in a field that names v.
-abbrev pub SeenAt : List ℕ → ℕ → ℕ → ℕ → ℕ → Type 0
-SeenAt parts word n v r = Seen (getD parts (v % 64) 0) (bit word (n % 64)) r
+abbrev pub SeenAt : List ℕ → ℕ → ℕ → ℕ → ℕ → ℕ → Type 0
+SeenAt parts truth word n v r = Seen (getD parts (v % 64) 0) (bit truth (v % 64)) (bit word (n % 64)) r
+
+-- What the second operand of row n may be, by what is found of it.
+abbrev pub SecondOf : List ℕ → ℕ → ℕ → List ℕ → ℕ → Part → Type 0
+SecondOf t truth word parts n y = (b : ℕ) → SeenAt parts truth word n (bOf t n) b → b ≡ sideCode y
 
 -- The part of two operands, the first of number a and the second with the parts of Second.
 pub record Pair (kind a : ℕ) (Second : Part → Type 0) (r : ℕ) : Type 0 where
@@ -44,8 +48,8 @@ pub record Loop (kind a r : ℕ) : Type 0 where
   pub plus-is : kind ≡ 20 → (x : Part) → a ≡ sideCode x → r ≡ sideCode (loop-part false x)
 
 -- The part of row n, whose first operand has number a.
-pub record PartOf (t : List ℕ) (word : ℕ) (parts : List ℕ) (n a r : ℕ) : Type 0 where
-  pub pair : Pair (kindOf t n) a (λ y. (b : ℕ) → SeenAt parts word n (bOf t n) b → b ≡ sideCode y) r
+pub record PartOf (t : List ℕ) (truth word : ℕ) (parts : List ℕ) (n a r : ℕ) : Type 0 where
+  pub pair : Pair (kindOf t n) a (SecondOf t truth word parts n) r
   pub loop : Loop (kindOf t n) a r
 
 -- The left sides that end, by the number a of the operand of row n.
@@ -54,20 +58,20 @@ pub record Hit (n a ends early ends′ early′ : ℕ) : Type 0 where
   pub early-on : WithBit early n (has 1 a) early′
 
 -- Row n is found: what its first operand does, then its own part or that its left side ends.
-pub record Found (t : List ℕ) (word : ℕ) (parts parts′ : List ℕ) (n a ends early ends′ early′ : ℕ) : Type 0 where
-  pub part-is : kindOf t n < 32 → (p : ℕ) × PartOf t word parts n a p × (parts′ ≡ set parts (n % 64) p)
+pub record Found (t : List ℕ) (truth word : ℕ) (parts parts′ : List ℕ) (n a ends early ends′ early′ : ℕ) : Type 0 where
+  pub part-is : kindOf t n < 32 → (p : ℕ) × PartOf t truth word parts n a p × (parts′ ≡ set parts (n % 64) p)
   pub hits-same : kindOf t n < 32 → (ends′ ≡ ends) × (early′ ≡ early)
   pub hit-is : 32 ≤ kindOf t n → Hit n a ends early ends′ early′
   pub parts-same : 32 ≤ kindOf t n → parts′ ≡ parts
 
-pub record Put (t : List ℕ) (word : ℕ) (parts parts′ lefts lefts′ : List ℕ) (n a ends early ends′ early′ : ℕ) : Type 0 where
-  pub found : Found t word parts parts′ n a ends early ends′ early′
+pub record Put (t : List ℕ) (truth word : ℕ) (parts parts′ lefts lefts′ : List ℕ) (n a ends early ends′ early′ : ℕ) : Type 0 where
+  pub found : Found t truth word parts parts′ n a ends early ends′ early′
   pub lefts-is : lefts′ ≡ set lefts (n % 64) a
 
-pub record Upped (t : List ℕ) (live-a live-b : ℕ) (parts parts′ lefts lefts′ : List ℕ) (n ends early ends′ early′ : ℕ) : Type 0 where
+pub record Upped (t : List ℕ) (truth live-a live-b : ℕ) (parts parts′ lefts lefts′ : List ℕ) (n ends early ends′ early′ : ℕ) : Type 0 where
   pub first : ℕ
-  pub seen : SeenAt parts live-a n (aOf t n) first
-  pub put : Put t live-b parts parts′ lefts lefts′ n first ends early ends′ early′
+  pub seen : SeenAt parts truth live-a n (aOf t n) first
+  pub put : Put t truth live-b parts parts′ lefts lefts′ n first ends early ends′ early′
 
 -- ---- down the rows
 
@@ -100,7 +104,11 @@ pub record HandedOne (t : List ℕ) (n own booleans a b : ℕ) (uses : List ℕ)
   pub first : Handed n (aOf t n) own booleans a uses a′ uses′
   pub second : b′ ≡ b
 
+-- A row of two operands and of this kind has handed on: the first has number a, the row is used as `used` says.
+abbrev pub PairDowned : List ℕ → ℕ → ℕ → ℕ → ℕ → ℕ → ℕ → ℕ → List ℕ → ℕ → ℕ → List ℕ → Type 0
+PairDowned t kind n left used booleans a b uses a′ b′ uses′ = (on : ℕ) × Right kind left used on × HandedTwo t n used on booleans a b uses a′ b′ uses′
+
 -- Row n has handed on what it was handed.
 pub record Downed (t : List ℕ) (n booleans begin held a b : ℕ) (lefts uses : List ℕ) (a′ b′ : ℕ) (uses′ : List ℕ) : Type 0 where
-  pub pair-is : kindOf t n ≤ 18 → (on : ℕ) × Right (kindOf t n) (getD lefts (n % 64) 0) (getD uses (n % 64) 0) on × HandedTwo t n (getD uses (n % 64) 0) on booleans a b uses a′ b′ uses′
+  pub pair-is : kindOf t n ≤ 18 → PairDowned t (kindOf t n) n (getD lefts (n % 64) 0) (getD uses (n % 64) 0) booleans a b uses a′ b′ uses′
   pub only-is : 18 < kindOf t n → (own : ℕ) × Only n (kindOf t n) (getD lefts (n % 64) 0) (getD uses (n % 64) 0) begin held own × HandedOne t n own booleans a b uses a′ b′ uses′

@@ -80,6 +80,9 @@ fn entered(table: &[u8], plan: Plan, p: Pass, lefts: &[u8; 64]) -> Live
         → SidesEnter (now (table .entry)) (plan .sides) (p .begin) (p .held) enter → LeftsFound (now (table .entry)) row before (plan .sides) x (now (lefts .entry))
         → SidesDown row rows before (plan .sides) x enter (r .a) (r .b)) ⌝ }
 {
+    if plan.sides == 0 {
+        return Live { a: 0, b: 0 };
+    }
     let mut uses = [0u8; 64];
     sides::downward(
         table,

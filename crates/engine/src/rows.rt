@@ -1,5 +1,6 @@
 // The fields of a row that the bytes hold, and whether they hold it.
 ghost use mathlib.Core.Path.{_≡_};
+ghost use Prim.Native.Nat.{ℕ, _+_, _*_, _<_};
 ghost use Rattle.psl.specs.Proof.Decide.Tells.{Tells};
 ghost use Rattle.engine.specs.Reads.{kindOf, aOf, bOf, cOf, Held, Within};
 
@@ -31,9 +32,23 @@ pub(crate) fn c(table: &[u8], n: u8) -> u8
     table[19 + 4 * (n as usize)]
 }
 
-// Whether the bytes hold the rows of a set: of no rows they do.
+// How many rows so many bytes hold, 64 where more.
+fn rows_in(bytes: usize) -> u8
+    ensures { λ r. ⌜ ((n : ℕ) → n < 64 → (n < r → 19 + 4 * n < bytes) × (19 + 4 * n < bytes → n < r)) ⌝ }
+{
+    if bytes < 16 {
+        return 0;
+    }
+    if bytes < 272 {
+        ((bytes - 16) / 4) as u8
+    } else {
+        64
+    }
+}
+
+// Whether the bytes hold the rows of a set.
 pub(crate) fn covers(table: &[u8], rows: u64) -> bool
     ensures { λ r. ⌜ Tells (Within (now (table .entry)) rows) r ⌝ }
 {
-    (rows == 0) | (19 + 4 * (words::highest(rows) as usize) < table.len())
+    !words::has_from(rows, rows_in(table.len()))
 }

@@ -2,15 +2,16 @@
 // What a part does on this letter, as a number: 1 entered now it ends now, 2 an attempt under way ends it, 4 it can be empty.
 ghost use mathlib.Core.Path.{_≡_};
 ghost use mathlib.Core.Bool.{Bool};
-ghost use Prim.Native.Nat.{ℕ};
-ghost use lib.ListN.{length};
+ghost use Prim.Native.Nat.{ℕ, _%_};
+ghost use lib.ListN.{length, getD};
+ghost use Rattle.psl.specs.Booleans.{bit};
 ghost use Rattle.lanes.specs.Rows.{Row, Sound};
 ghost use Rattle.lanes.specs.Expected.{Table};
 ghost use Rattle.lanes.specs.UpPass.{Part, then-part, fuse-part};
 ghost use Rattle.lanes.specs.Uses.{Use, ended-lanes};
 ghost use Rattle.engine.specs.Reads.{kindOf, bOf, Held, Within};
 ghost use Rattle.engine.specs.Sides.{one-if, sideCode, useCode, SideRows, SideUsers, LiveWords, LiveAtCells, LeftsFound, SidesUp, OverSides, SidesEnter, SidesDown};
-ghost use Rattle.engine.specs.SideSteps.{CellsFound, Seen, SeenAt, Pair, Loop, PartOf, Hit, Put, Upped, Right, Only, Handed, HandedTwo, Downed};
+ghost use Rattle.engine.specs.SideSteps.{CellsFound, Seen, SeenAt, SecondOf, Pair, Loop, PartOf, Hit, Put, Upped, Right, Only, Handed, HandedTwo, PairDowned, Downed};
 ghost use Rattle.engine.specs.Truths.{OnlyIn};
 use crate::properties::Hits;
 use crate::rows;
@@ -41,11 +42,16 @@ fn cells(booleans: u64, truth: u64, parts: &mut [u8; 64])
     }
 }
 
-// A part where it is used: an expected cell that holds ends it.
-fn seen(p: u8, live: bool) -> u8
-    ensures { λ r. ⌜ Seen p live r ⌝ }
+// What is found at operand v: an expected cell ends where it holds; else its part.
+fn seen(v: u8, live: bool, truth: u64, parts: &[u8; 64]) -> u8
+    requires { ⌜ length (now parts) ≡ 64 ⌝ }
+    ensures { λ r. ⌜ Seen (getD (now (parts .entry)) (v % 64) 0) (bit truth (v % 64)) live r ⌝ }
 {
-    p | only_if(live, (p & 1) << 1)
+    if live {
+        return only_if(words::bit(truth, v), 3);
+    }
+    let i = (v % 64) as usize;
+    parts[i]
 }
 
 // a ; b
@@ -58,6 +64,26 @@ fn then_part(a: u8, b: u8) -> u8
     (b & (2 | ((a & 4) >> 2))) | only_if(b & 4 != 0, a & 3) | (a & b & 4)
 }
 
+// a ; b, where b is an expected cell that holds where `on`.
+fn then_cell(a: u8, on: bool) -> u8
+    ensures { λ r. ⌜ ((x y : Part) → a ≡ sideCode x → one-if on 3 ≡ sideCode y → r ≡ sideCode (then-part x y)) ⌝ }
+{
+    only_if(on, 2 | ((a & 4) >> 2))
+}
+
+// a ; b in row n.
+fn then_row(table: &[u8], n: u8, a: u8, live: u64, truth: u64, parts: &[u8; 64]) -> u8
+    requires { ⌜ Held (now table) n × (length (now parts) ≡ 64) ⌝ }
+    ensures { λ r. ⌜ ((x y : Part) → a ≡ sideCode x → SecondOf (now (table .entry)) truth live (now (parts .entry)) n y → r ≡ sideCode (then-part x y)) ⌝ }
+{
+    let v = rows::b(table, n);
+    if words::bit(live, n) {
+        return then_cell(a, words::bit(truth, v));
+    }
+    let i = (v % 64) as usize;
+    then_part(a, parts[i])
+}
+
 // a : b
 fn fuse_part(a: u8, b: u8) -> u8
     ensures { λ r. ⌜ ((x y : Part) → a ≡ sideCode x → b ≡ sideCode y → r ≡ sideCode (fuse-part x y)) ⌝ }
@@ -65,12 +91,11 @@ fn fuse_part(a: u8, b: u8) -> u8
     (b & 2) | only_if(b & 1 != 0, a & 3)
 }
 
+// a : b, a | b
 fn pair_part(kind: u8, a: u8, b: u8) -> u8
+    requires { ⌜ (kind ≡ 16 → ⊥) ⌝ }
     ensures { λ r. ⌜ Pair kind a (λ y. b ≡ sideCode y) r ⌝ }
 {
-    if kind == 16 {
-        return then_part(a, b);
-    }
     if kind == 17 { fuse_part(a, b) } else { a | b }
 }
 
@@ -81,21 +106,20 @@ fn loop_part(kind: u8, a: u8) -> u8
 }
 
 // The part in field b of row n.
-fn second(table: &[u8], n: u8, live: u64, parts: &[u8; 64]) -> u8
+fn second(table: &[u8], n: u8, live: u64, truth: u64, parts: &[u8; 64]) -> u8
     requires { ⌜ Held (now table) n × (length (now parts) ≡ 64) ⌝ }
-    ensures { λ r. ⌜ SeenAt (now (parts .entry)) live n (bOf (now (table .entry)) n) r ⌝ }
+    ensures { λ r. ⌜ SeenAt (now (parts .entry)) truth live n (bOf (now (table .entry)) n) r ⌝ }
 {
-    let v = (rows::b(table, n) % 64) as usize;
-    seen(parts[v], words::bit(live, n))
+    seen(rows::b(table, n), words::bit(live, n), truth, parts)
 }
 
-// The part of row n, from its first operand's.
-fn part(table: &[u8], n: u8, kind: u8, a: u8, live: u64, parts: &[u8; 64]) -> u8
-    requires { ⌜ Held (now table) n × (length (now parts) ≡ 64) × (kind ≡ kindOf (now table) n) ⌝ }
-    ensures { λ r. ⌜ PartOf (now (table .entry)) live (now (parts .entry)) n a r ⌝ }
+// The part of row n, which is no a ; b, from its first operand's.
+fn part(table: &[u8], n: u8, kind: u8, a: u8, live: u64, truth: u64, parts: &[u8; 64]) -> u8
+    requires { ⌜ Held (now table) n × (length (now parts) ≡ 64) × (kind ≡ kindOf (now table) n) × (kind ≡ 16 → ⊥) ⌝ }
+    ensures { λ r. ⌜ PartOf (now (table .entry)) truth live (now (parts .entry)) n a r ⌝ }
 {
     if kind <= 18 {
-        return pair_part(kind, a, second(table, n, live, parts));
+        return pair_part(kind, a, second(table, n, live, truth, parts));
     }
     loop_part(kind, a)
 }
@@ -115,21 +139,27 @@ fn put(
     n: u8,
     a: u8,
     live: u64,
+    truth: u64,
     hits: Hits,
     parts: &mut [u8; 64],
     lefts: &mut [u8; 64],
 ) -> Hits
     requires { ⌜ Held (now table) n × (length (now parts) ≡ 64) × (length (now lefts) ≡ 64) ⌝ }
-    ensures { λ r. ⌜ Put (now (table .entry)) live (now (parts .entry)) (now (parts .exit)) (now (lefts .entry)) (now (lefts .exit)) n a
+    ensures { λ r. ⌜ Put (now (table .entry)) truth live (now (parts .entry)) (now (parts .exit)) (now (lefts .entry)) (now (lefts .exit)) n a
         (hits .ends) (hits .early) (r .ends) (r .early) ⌝ }
 {
     let kind = rows::kind(table, n);
     let i = (n % 64) as usize;
     lefts[i] = a;
+    if kind == 16 {
+        let t = then_row(table, n, a, live, truth, &*parts);
+        parts[i] = t;
+        return hits;
+    }
     if 32 <= kind {
         return hit(hits, n, a);
     }
-    let p = part(table, n, kind, a, live, &*parts);
+    let p = part(table, n, kind, a, live, truth, &*parts);
     parts[i] = p;
     hits
 }
@@ -138,17 +168,17 @@ fn up(
     table: &[u8],
     n: u8,
     live: Live,
+    truth: u64,
     hits: Hits,
     parts: &mut [u8; 64],
     lefts: &mut [u8; 64],
 ) -> Hits
     requires { ⌜ Held (now table) n × (length (now parts) ≡ 64) × (length (now lefts) ≡ 64) ⌝ }
-    ensures { λ r. ⌜ Upped (now (table .entry)) (live .a) (live .b) (now (parts .entry)) (now (parts .exit)) (now (lefts .entry)) (now (lefts .exit)) n
+    ensures { λ r. ⌜ Upped (now (table .entry)) truth (live .a) (live .b) (now (parts .entry)) (now (parts .exit)) (now (lefts .entry)) (now (lefts .exit)) n
         (hits .ends) (hits .early) (r .ends) (r .early) ⌝ }
 {
-    let v = (rows::a(table, n) % 64) as usize;
-    let a = seen(parts[v], words::bit(live.a, n));
-    put(table, n, a, live.b, hits, &mut *parts, &mut *lefts)
+    let a = seen(rows::a(table, n), words::bit(live.a, n), truth, &*parts);
+    put(table, n, a, live.b, truth, hits, &mut *parts, &mut *lefts)
 }
 
 pub(crate) fn upward(
@@ -173,7 +203,7 @@ pub(crate) fn upward(
     while left != 0 {
         let n = words::lowest(left);
         left = words::without_lowest(left);
-        hits = up(table, n, live, hits, &mut *parts, &mut *lefts);
+        hits = up(table, n, live, truth, hits, &mut *parts, &mut *lefts);
     }
     hits
 }
@@ -187,13 +217,18 @@ fn ended(a: u8, used: u8) -> u8
     (a | (a & used & 1) << 1) & 2
 }
 
-// The use of the second operand.
+// The use of b in a ; b
+fn then_right(a: u8, used: u8) -> u8
+    ensures { λ r. ⌜ Right 16 a used r ⌝ }
+{
+    ended(a, used) | only_if(a & 4 != 0, used)
+}
+
+// The use of b in a : b, a | b
 fn right(kind: u8, a: u8, used: u8) -> u8
+    requires { ⌜ (kind ≡ 16 → ⊥) ⌝ }
     ensures { λ r. ⌜ Right kind a used r ⌝ }
 {
-    if kind == 16 {
-        return ended(a, used) | only_if(a & 4 != 0, used);
-    }
     if kind == 17 {
         ended(a, used) >> 1
     } else {
@@ -248,6 +283,29 @@ fn pair_down(
     }
 }
 
+// A row a ; b, where mostly a just ends or does nothing.
+fn then_down(
+    table: &[u8],
+    n: u8,
+    a: u8,
+    used: u8,
+    booleans: u64,
+    live: Live,
+    uses: &mut [u8; 64],
+) -> Live
+    requires { ⌜ Held (now table) n × (length (now uses) ≡ 64) ⌝ }
+    ensures { λ r. ⌜ PairDowned (now (table .entry)) 16 n a used booleans (live .a) (live .b) (now (uses .entry)) (r .a) (r .b) (now (uses .exit)) ⌝ }
+{
+    if a == 0 {
+        return pair_down(table, n, used, 0, booleans, live, &mut *uses);
+    }
+    if a & 6 == 2 {
+        return pair_down(table, n, used, 2, booleans, live, &mut *uses);
+    }
+    let on = then_right(a, used);
+    pair_down(table, n, used, on, booleans, live, &mut *uses)
+}
+
 // Row n downwards.
 fn down(
     table: &[u8],
@@ -267,6 +325,9 @@ fn down(
     let i = (n % 64) as usize;
     let a = lefts[i];
     let used = uses[i];
+    if kind == 16 {
+        return then_down(table, n, a, used, booleans, live, &mut *uses);
+    }
     if kind <= 18 {
         let on = right(kind, a, used);
         return pair_down(table, n, used, on, booleans, live, &mut *uses);

@@ -82,17 +82,23 @@ fn capped(j: u8, k: u8) -> u8
     if sum < 7 { sum } else { 7 }
 }
 
-// a ; b, a : b, a | b
+// a ; b
+fn then_pair(a: Part, b: Part) -> Part
+    ensures { λ r. ⌜ Pairs 16 (a .act) (a .count) (b .act) (b .count) (r .act) (r .count) ⌝ }
+{
+    let count = capped(a.count, b.count);
+    Part {
+        act: then_act(a.act, b.act, a.count),
+        count,
+    }
+}
+
+// a : b, a | b
 fn pair(kind: u8, a: Part, b: Part) -> Part
+    requires { ⌜ (kind ≡ 16 → ⊥) ⌝ }
     ensures { λ r. ⌜ Pairs kind (a .act) (a .count) (b .act) (b .count) (r .act) (r .count) ⌝ }
 {
     let count = capped(a.count, b.count);
-    if kind == 16 {
-        return Part {
-            act: then_act(a.act, b.act, a.count),
-            count,
-        };
-    }
     if kind == 17 {
         return Part {
             act: fuse_act(a.act, b.act, a.count),
@@ -136,6 +142,9 @@ fn part_of(table: &[u8], n: u8, acts: &[u8; 64], counts: &[u8; 64]) -> Part
 {
     let kind = rows::kind(table, n);
     let a = part_at(rows::a(table, n), acts, counts);
+    if kind == 16 {
+        return then_pair(a, part_at(rows::b(table, n), acts, counts));
+    }
     if kind <= 18 {
         return pair(kind, a, part_at(rows::b(table, n), acts, counts));
     }

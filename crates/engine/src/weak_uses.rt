@@ -33,10 +33,17 @@ fn place_after(place: u8, count: u8) -> u8
     (((place as u16) + ((count % 8) as u16)) % 256) as u8
 }
 
-// The use of b in a ; b
+// The use of b in a ; b, where mostly a can neither be empty nor end at once.
 fn then_use(a: Part, used: Use) -> Use
     ensures { λ r. ⌜ ThenUse (a .act) (a .count) (used .place) (used .into) (used .go) (r .place) (r .into) (r .go) ⌝ }
 {
+    if a.act < 64 {
+        return Use {
+            place: place_after(used.place, a.count),
+            into: 0,
+            go: shifted(a.act, used.place),
+        };
+    }
     let through = a.act & 128 != 0;
     Use {
         place: place_after(used.place, a.count),
@@ -56,13 +63,11 @@ fn fuse_use(a: Part, used: Use) -> Use
     }
 }
 
-// The use of the second operand.
+// The use of b in a : b, a | b
 fn right(kind: u8, a: Part, used: Use) -> Use
+    requires { ⌜ (kind ≡ 16 → ⊥) ⌝ }
     ensures { λ r. ⌜ RightUse kind (a .act) (a .count) (used .place) (used .into) (used .go) (r .place) (r .into) (r .go) ⌝ }
 {
-    if kind == 16 {
-        return then_use(a, used);
-    }
     if kind == 17 {
         return fuse_use(a, used);
     }
@@ -141,7 +146,45 @@ fn handed(
     gos[i] = used.go;
 }
 
-// A row of a weak sequence.
+// A row a ; b of a weak sequence.
+fn then_inner(
+    table: &[u8],
+    n: u8,
+    booleans: u64,
+    acts: &[u8; 64],
+    counts: &[u8; 64],
+    places: &mut [u8; 64],
+    intos: &mut [u8; 64],
+    gos: &mut [u8; 64],
+    leads: &mut [u8; 256],
+)
+    requires { ⌜ Held (now table) n × (kindOf (now table) n ≡ 16) × (length (now acts) ≡ 64) × (length (now counts) ≡ 64) × Sized (arrays (now places) (now intos) (now gos) (now leads)) ⌝ }
+    ensures { λ r. ⌜ Sized (arrays (now (places .exit)) (now (intos .exit)) (now (gos .exit)) (now (leads .exit))) × InnerDone (now (table .entry)) n booleans (now (acts .entry)) (now (counts .entry)) (arrays (now (places .entry)) (now (intos .entry)) (now (gos .entry)) (now (leads .entry))) (arrays (now (places .exit)) (now (intos .exit)) (now (gos .exit)) (now (leads .exit))) ⌝ }
+{
+    let used = use_at(n, &*places, &*intos, &*gos);
+    let v = rows::a(table, n);
+    let a = part_at(v, acts, counts);
+    handed(
+        v,
+        used,
+        booleans,
+        &mut *places,
+        &mut *intos,
+        &mut *gos,
+        &mut *leads,
+    );
+    handed(
+        rows::b(table, n),
+        then_use(a, used),
+        booleans,
+        &mut *places,
+        &mut *intos,
+        &mut *gos,
+        &mut *leads,
+    );
+}
+
+// Another row of a weak sequence.
 fn inner(
     table: &[u8],
     n: u8,
@@ -154,7 +197,7 @@ fn inner(
     gos: &mut [u8; 64],
     leads: &mut [u8; 256],
 )
-    requires { ⌜ Held (now table) n × (kind ≡ kindOf (now table) n) × (length (now acts) ≡ 64) × (length (now counts) ≡ 64) × Sized (arrays (now places) (now intos) (now gos) (now leads)) ⌝ }
+    requires { ⌜ Held (now table) n × (kind ≡ kindOf (now table) n) × (kind ≡ 16 → ⊥) × (length (now acts) ≡ 64) × (length (now counts) ≡ 64) × Sized (arrays (now places) (now intos) (now gos) (now leads)) ⌝ }
     ensures { λ r. ⌜ Sized (arrays (now (places .exit)) (now (intos .exit)) (now (gos .exit)) (now (leads .exit))) × InnerDone (now (table .entry)) n booleans (now (acts .entry)) (now (counts .entry)) (arrays (now (places .entry)) (now (intos .entry)) (now (gos .entry)) (now (leads .entry))) (arrays (now (places .exit)) (now (intos .exit)) (now (gos .exit)) (now (leads .exit))) ⌝ }
 {
     let used = use_at(n, &*places, &*intos, &*gos);
@@ -236,6 +279,20 @@ fn down(
     ensures { λ r. ⌜ Sized (arrays (now (places .exit)) (now (intos .exit)) (now (gos .exit)) (now (leads .exit))) × (length (now (tops .exit)) ≡ 32) × RowDone (now (table .entry)) n w booleans begin (now (acts .entry)) (now (counts .entry)) (arrays (now (places .entry)) (now (intos .entry)) (now (gos .entry)) (now (leads .entry))) (now (tops .entry)) r (arrays (now (places .exit)) (now (intos .exit)) (now (gos .exit)) (now (leads .exit))) (now (tops .exit)) ⌝ }
 {
     let kind = rows::kind(table, n);
+    if kind == 16 {
+        then_inner(
+            table,
+            n,
+            booleans,
+            acts,
+            counts,
+            &mut *places,
+            &mut *intos,
+            &mut *gos,
+            &mut *leads,
+        );
+        return w;
+    }
     if kind < 32 {
         inner(
             table,

@@ -5,12 +5,6 @@ use Rattle.engine.proofs.sides.up.Tie as tie
 a-requires : tie.Need-a-requires
 a-requires c κs = search needs
 
-cast-v : tie.Need-cast-v
-cast-v c = search needs
-
-element-copy-out-seen : tie.Need-element-copy-out-seen
-element-copy-out-seen c = search needs
-
 bit-requires : tie.Need-bit-requires
 bit-requires c κs = search needs
 
@@ -23,18 +17,9 @@ put-requires c κs = search needs
 returns : tie.Need-returns
 returns c = record {
   first = c .before .before .before .seen .result;
-  seen = rw (c .before .before .before .before .bit .ensures, c .before .before .before .before .before .before .a .ensures) at (c .before .before .before .seen .ensures);
+  seen = rw (c .before .before .before .before .before .bit .ensures, c .before .before .before .before .before .before .a .ensures) at (c .before .before .before .seen .ensures);
   put = c .put .ensures;
 }
 
 pub up-spec : {M : Type 1} → statement M
-up-spec =
-    tie.close
-    (tie.spec
-    a-requires
-    cast-v
-    element-copy-out-seen
-    bit-requires
-    seen-requires
-    put-requires
-    returns)
+up-spec = tie.close (tie.spec a-requires bit-requires seen-requires put-requires returns)
