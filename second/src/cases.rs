@@ -17,8 +17,9 @@ const LARGE: usize = 2_000;
 
 /// A valid table, with the most samples that are fast to read with it.
 pub fn valid_table(random: &mut Random) -> (Draft, usize) {
-    match random.below(42) {
+    match random.below(46) {
         40 | 41 => (tables::crowded(random), 16),
+        42..=45 => (tables::pipelined(random), 40),
         0..=11 => (tables::ordinary(random), 20),
         12..=21 => (tables::framed(random), 24),
         22..=28 => (tables::overlapping(random), 40),

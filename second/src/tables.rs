@@ -100,6 +100,15 @@ impl<'a> Maker<'a> {
         self.push(kind, a, b, 0)
     }
 
+    /// A Boolean, repeated now and then.
+    fn cell(&mut self) -> u8 {
+        let boolean = self.boolean();
+        match self.random.pick(&[0, 0, 0, 19, 20]) {
+            0 => boolean,
+            kind => self.push(kind, boolean, 0, 0),
+        }
+    }
+
     /// A weak sequence of so many cells, with as many new rows.
     fn weak_sequence(&mut self, cells: usize) -> u8 {
         let sequence = self.sequence_of_cells(cells, &[16, 16, 17, 18]);
@@ -255,6 +264,27 @@ pub fn overlapping(random: &mut Random) -> Draft {
         0 => maker.push(39, attempt, guard, 0),
         _ => maker.push(38, attempt, 0, 0),
     };
+    maker.root(node);
+    maker.finish()
+}
+
+/// A weak sequence of several cells that begins at almost every sample, and whose attempts last:
+/// many are under way at once, each somewhere else in it.
+pub fn pipelined(random: &mut Random) -> Draft {
+    let mut maker = Maker::new(random, 3);
+    let holds = maker.push(1, 0, 0, 0);
+    maker.booleans.extend([holds; 2]);
+    let mut sequence = maker.cell();
+    for _ in 1..maker.random.between(3, MOST_WEAK_CELLS) {
+        let next = maker.cell();
+        let kind = maker.random.pick(&[16, 16, 16, 18]);
+        sequence = maker.push(kind, sequence, next, 0);
+    }
+    let weak = maker.push(32, sequence, 0, 0);
+    let guard = maker.boolean();
+    let kind = maker.random.pick(&[36, 40, 41]);
+    let attempt = maker.push(kind, guard, weak, 0);
+    let node = maker.push(38, attempt, 0, 0);
     maker.root(node);
     maker.finish()
 }
