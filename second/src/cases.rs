@@ -6,7 +6,7 @@ use crate::draft::Draft;
 use crate::random::Random;
 use crate::table::{self, Table, MOST_NODES, MOST_PROPERTIES};
 use crate::trace::MOST_CYCLES;
-use crate::vectors::{refusal_number, Case, Vectors, STEPS};
+use crate::vectors::{refusal_number, Case, Vectors};
 use crate::{tables, traces};
 
 const REFUSALS: [usize; 14] = [1, 2, 3, 4, 5, 6, 7, 8, 9, 10, 11, 12, 13, 15];
@@ -16,17 +16,19 @@ const LEAST_OF_EACH: usize = 50;
 const LARGE: usize = 2_000;
 
 /// A valid table, with the most samples that are fast to read with it.
-fn valid_table(random: &mut Random) -> (Draft, usize) {
-    match random.below(40) {
-        0..=11 => (tables::ordinary(random), 14),
-        12..=21 => (tables::framed(random), 16),
-        22..=28 => (tables::overlapping(random), 24),
+pub fn valid_table(random: &mut Random) -> (Draft, usize) {
+    match random.below(46) {
+        40 | 41 => (tables::crowded(random), 16),
+        42..=45 => (tables::pipelined(random), 40),
+        0..=11 => (tables::ordinary(random), 20),
+        12..=21 => (tables::framed(random), 24),
+        22..=28 => (tables::overlapping(random), 40),
         29 | 30 => (tables::full(random), 10),
-        31 | 32 => (tables::wide(random), 8),
+        31 | 32 => (tables::wide(random), 12),
         33 | 34 => (tables::weak_of_cells(random, &[6]), 12),
         35 => (tables::weak_of_cells(random, &[6, 5, 6]), 12),
         36 => (tables::doubling(random), 12),
-        _ => (tables::small(random), 60),
+        _ => (tables::small(random), 120),
     }
 }
 
@@ -38,7 +40,7 @@ fn accepted(draft: &Draft) -> Table {
 }
 
 /// A case that is not refused.
-fn sound_case(random: &mut Random) -> (Case, Table) {
+pub fn sound_case(random: &mut Random) -> (Case, Table) {
     let (draft, most) = valid_table(random);
     let table = accepted(&draft);
     let property = random.below(draft.roots.len());
@@ -54,7 +56,7 @@ fn sound_case(random: &mut Random) -> (Case, Table) {
 }
 
 /// Thins out verdicts of the first cycle, and any verdict that is already common.
-fn is_wanted(random: &mut Random, vectors: &Vectors, answer: u64) -> bool {
+pub fn is_wanted(random: &mut Random, vectors: &Vectors, answer: u64) -> bool {
     let (code, cycle) = ((answer >> 32) as usize, answer as u32);
     let common = 20 * vectors.of_verdict[code - 1] > 9 * vectors.verdicts() + 200;
     !common && (cycle > 2 || random.chance(u32::max(cycle, 1) as usize, 6))
@@ -94,7 +96,7 @@ fn table_to_damage(random: &mut Random, numbers: &[usize]) -> Draft {
 }
 
 /// A case with all these damages; the last in the order of the refusals is done first.
-fn damaged_case(random: &mut Random, numbers: &[usize]) -> Case {
+pub fn damaged_case(random: &mut Random, numbers: &[usize]) -> Case {
     let mut draft = table_to_damage(random, numbers);
     if numbers.contains(&3) && random.chance(1, 8) {
         draft.roots.resize(MOST_PROPERTIES + 1, 0);
@@ -181,11 +183,9 @@ fn add_refusals(random: &mut Random, vectors: &mut Vectors, count: usize, among:
     }
 }
 
-pub fn cases(random: &mut Random, verdicts: usize, refusals: usize) -> Vectors {
-    let mut vectors = Vectors::default();
-    add_verdicts(random, &mut vectors, verdicts);
-    add_refusals(random, &mut vectors, refusals, &REFUSALS);
-    vectors
+pub fn cases(random: &mut Random, vectors: &mut Vectors, verdicts: usize, refusals: usize) {
+    add_verdicts(random, vectors, verdicts);
+    add_refusals(random, vectors, refusals, &REFUSALS);
 }
 
 fn record_check(vectors: &mut Vectors, table: &[u8]) {
@@ -213,39 +213,25 @@ fn sweep(random: &mut Random, vectors: &mut Vectors, table: &[u8], count: usize)
     }
 }
 
-pub fn checks(random: &mut Random, count: usize) -> Vectors {
-    let mut vectors = Vectors::default();
+pub fn checks(random: &mut Random, vectors: &mut Vectors, count: usize) {
     while vectors.of_kind[1] < count / 2 {
         let (draft, _) = valid_table(random);
-        sweep(random, &mut vectors, &draft.bytes(), count / 2);
+        sweep(random, vectors, &draft.bytes(), count / 2);
     }
     while vectors.of_kind[1] < count * 3 / 5 {
-        record_check(&mut vectors, &valid_table(random).0.bytes());
+        record_check(vectors, &valid_table(random).0.bytes());
     }
     let mut turn = 0;
     let missing = |vectors: &Vectors| {
         count >= LARGE && vectors.of_refusal[1..=11].iter().any(|&seen| seen < LEAST_OF_EACH)
     };
-    while vectors.of_kind[1] < count || missing(&vectors) {
+    while vectors.of_kind[1] < count || missing(vectors) {
         let mut numbers = vec![1 + turn % TABLE_REFUSALS];
         if turn % 3 == 0 {
             numbers.push(random.between(1, TABLE_REFUSALS));
         }
         let case = damaged_case(random, &numbers);
-        record_check(&mut vectors, &case.table);
+        record_check(vectors, &case.table);
         turn += 1;
     }
-    vectors
-}
-
-pub fn steps(random: &mut Random, count: usize) -> Vectors {
-    let mut vectors = Vectors::default();
-    while vectors.of_kind[3] < count {
-        let (mut case, table) = sound_case(random);
-        if is_wanted(random, &vectors, case.answer()) {
-            case.kind = STEPS;
-            vectors.record_steps(&case, &table);
-        }
-    }
-    vectors
 }

@@ -4,12 +4,20 @@ use crate::properties::{Reading, Verdict};
 use crate::table::{self, refused, Refusal, Table};
 use crate::{trace, tree};
 
-/// Table check, 12, 15, 13, and only then the first cycle.
-pub fn judge(table: &[u8], trace: &[u8], property: u32) -> Result<Verdict, Refusal> {
+pub const PENDING: u64 = 3;
+
+/// Opening a property: the table check, then 12.
+fn open(table: &[u8], property: u32) -> Result<Table, Refusal> {
     let table = table::check(table)?;
     if property as usize >= table.roots.len() {
         return refused(12, 0);
     }
+    Ok(table)
+}
+
+/// What opening refuses, 15, 13, and only then the first cycle.
+pub fn judge(table: &[u8], trace: &[u8], property: u32) -> Result<Verdict, Refusal> {
+    let table = open(table, property)?;
     let samples = trace::read(trace, table.signals)?;
     Ok(verdict(&table, property as usize, &samples))
 }
@@ -19,11 +27,48 @@ pub fn verdict(table: &Table, property: usize, samples: &[u32]) -> Verdict {
     Reading::new(table, &tree, samples).right_verdict(samples.len())
 }
 
-/// The right verdict after each of 1, 2, .. samples.
-pub fn verdicts(table: &Table, property: usize, samples: &[u32]) -> Vec<Verdict> {
-    let tree = tree::read(table, property);
-    let mut reading = Reading::new(table, &tree, samples);
-    (1..=samples.len()).map(|length| reading.right_verdict(length)).collect()
+/// The answer to opening, pending after no cycle, and then to each sample. A sample that sets a
+/// bit S or above is refused, and the samples after it are read as if it had not been there.
+pub fn step_answers(table: &[u8], property: u32, samples: &[u32]) -> Vec<u64> {
+    let table = match open(table, property) {
+        Ok(table) => table,
+        Err(refusal) => return vec![refusal_answer(refusal)],
+    };
+    let is_declared = |sample: &u32| u64::from(*sample) >> table.signals == 0;
+    let declared: Vec<u32> = samples.iter().copied().filter(is_declared).collect();
+    let tree = tree::read(&table, property as usize);
+    let mut reading = Reading::new(&table, &tree, &declared);
+    let mut answers = vec![verdict_answer(Verdict::Pending(0))];
+    let mut length = 0;
+    for sample in samples {
+        answers.push(match is_declared(sample) {
+            true => {
+                length += 1;
+                verdict_answer(reading.right_verdict(length))
+            }
+            false => refusal_answer(UNDECLARED),
+        });
+    }
+    answers
+}
+
+/// 2^32 times this, plus a cycle, stands for any verdict at that cycle.
+const ANY: u64 = 4;
+const UNDECLARED: Refusal = Refusal { number: 13, place: 0 };
+const TOO_MANY: Refusal = Refusal { number: 14, place: 0 };
+
+/// What is promised of a step from a verdict, whatever monitor it is of and whatever bytes stand
+/// for its table: refusals 13 and 14, a verdict repeated, or a new one at the next cycle.
+pub fn promised_answer(before: u64, table: &[u8], sample: u32) -> u64 {
+    let signals = table.get(2).copied().unwrap_or(0);
+    if signals < 32 && sample >> signals != 0 {
+        return refusal_answer(UNDECLARED);
+    }
+    match (before >> 32, before as u32) {
+        (PENDING, u32::MAX) => refusal_answer(TOO_MANY),
+        (PENDING, cycles) => (ANY << 32) + u64::from(cycles) + 1,
+        _ => before,
+    }
 }
 
 pub fn printed(table: &[u8], trace: &[u8]) -> String {
@@ -52,7 +97,7 @@ pub fn verdict_answer(verdict: Verdict) -> u64 {
     let (code, cycle) = match verdict {
         Verdict::Broken(cycle) => (1, cycle),
         Verdict::Settled(cycle) => (2, cycle),
-        Verdict::Pending(cycle) => (3, cycle),
+        Verdict::Pending(cycle) => (PENDING, cycle),
     };
     (code << 32) + u64::from(cycle)
 }

@@ -2,15 +2,19 @@
 //! traces: the definitions themselves, tried on every list of samples.
 
 mod cases;
+mod coverage;
 mod damage;
 mod damage_trace;
 mod draft;
+mod fixed;
 mod judge;
+mod monitors;
 mod properties;
 mod random;
 mod replay;
 mod selftest;
 mod sequences;
+mod states;
 mod table;
 mod tables;
 mod trace;
@@ -27,16 +31,18 @@ second check FILE                             print `accepted` or `refused NUMBE
 second selftest                               run the built-in tests, exit 1 on a difference
 second cases SEED OUT [VERDICTS [REFUSALS]]   write random cases (20000, 5000)
 second checks SEED OUT [COUNT]                write table checks only (10000)
-second steps SEED OUT [COUNT]                 write verdicts after every cycle (2000)
+second steps SEED OUT [COUNT]                 write answers after every cycle (2000)
+second strays SEED OUT [COUNT]                write steps of any monitors (2000)
+second fixed OUT                              write the small runs and other fixed cases
 second replay FILE                            answer a written file again, exit 1 on a difference
 
 SEED is a number, or `fresh` for one from the system; it is printed.
 
 OUT is a sequence of records, numbers little endian:
-  kind u8 (1 check, 2 judge, 3 steps), property u32, table length u32, trace length u32,
-  expected answer u64, table bytes, trace bytes;
-  kind 3 has the verdict after no cycle as expected answer, and after its trace bytes
-  one u64 for the verdict after each cycle.
+  kind u8 (1 check, 2 judge, 3 steps, 4 state, 5 stray), property u32, table length u32,
+  trace length u32, expected answer u64, table bytes, trace bytes;
+  kind 3 has the answer to opening as expected answer, and after its trace bytes one u64 for
+  the answer to each sample; kind 4 has the bytes of a monitor there. README.md says more.
 An answer: 2^32 times (0 refused, 1 broken, 2 settled, 3 pending) plus the cycle, or
 65,536 times the refusal number plus the place; 0 for an accepted table.
 ";
@@ -76,11 +82,14 @@ fn write_vectors(command: &str, seed: &str, out: &str, counts: &[&str]) -> Resul
         None => Ok(default),
     };
     let mut random = random::Random::from_seed(seed);
-    let vectors = match command {
-        "cases" => cases::cases(&mut random, count(0, 20_000)?, count(1, 5_000)?),
-        "checks" => cases::checks(&mut random, count(0, 10_000)?),
-        _ => cases::steps(&mut random, count(0, 2_000)?),
-    };
+    let mut vectors = vectors::Vectors::default();
+    match command {
+        "cases" => cases::cases(&mut random, &mut vectors, count(0, 20_000)?, count(1, 5_000)?),
+        "checks" => cases::checks(&mut random, &mut vectors, count(0, 10_000)?),
+        "steps" => monitors::steps(&mut random, &mut vectors, count(0, 2_000)?),
+        "strays" => monitors::strays(&mut random, &mut vectors, count(0, 2_000)?),
+        _ => fixed::fixed(&mut random, &mut vectors),
+    }
     std::fs::write(out, &vectors.bytes).map_err(|error| format!("{}: {}", out, error))?;
     print!("{}", vectors.summary(seed));
     Ok(())
@@ -102,10 +111,11 @@ fn run(words: &[&str]) -> Result<(), String> {
         ["check", file] => print_checked(file),
         ["replay", file] => replay_file(file),
         ["selftest"] => selftest::run(),
+        ["fixed", out] => write_vectors("fixed", "1", out, &[]),
         ["cases", seed, out, counts @ ..] if counts.len() <= 2 => {
             write_vectors("cases", seed, out, counts)
         }
-        [command @ ("checks" | "steps"), seed, out, counts @ ..] if counts.len() <= 1 => {
+        [command @ ("checks" | "steps" | "strays"), seed, out, counts @ ..] if counts.len() <= 1 => {
             write_vectors(command, seed, out, counts)
         }
         ["--help"] => {

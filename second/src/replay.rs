@@ -1,9 +1,9 @@
 //! Decides whether every record of a vector file has the answer this program gives.
 
-use crate::judge::{verdict_answer, verdicts};
-use crate::table::{self, u32_at};
-use crate::trace;
-use crate::vectors::{Case, STEPS};
+use crate::states::STATE_BYTES;
+use crate::table::u32_at;
+use crate::trace::samples_in;
+use crate::vectors::{last_verdict, Case, STATE, STEPS};
 
 const HEADER_BYTES: usize = 21;
 
@@ -24,39 +24,32 @@ fn u64_at(bytes: &[u8], at: usize) -> u64 {
 /// One record: the case and every answer the file expects for it.
 fn take_record(rest: &mut &[u8]) -> Result<(Case, Vec<u64>), String> {
     let header = take(rest, HEADER_BYTES)?;
-    let table = take(rest, u32_at(header, 5))?.to_vec();
-    let trace = take(rest, u32_at(header, 9))?.to_vec();
+    let mut case = Case { kind: header[0], property: u32_at(header, 1) as u32, ..Case::default() };
+    case.table = take(rest, u32_at(header, 5))?.to_vec();
+    case.trace = take(rest, u32_at(header, 9))?.to_vec();
     let mut expected = vec![u64_at(header, 13)];
-    let case = Case { kind: header[0], property: u32_at(header, 1) as u32, table, trace };
     if case.kind == STEPS {
-        let cycles = case.trace.len().saturating_sub(trace::TRACE_HEADER_BYTES) / 4;
+        let cycles = samples_in(&case.trace).len();
         expected.extend(take(rest, 8 * cycles)?.chunks(8).map(|chunk| u64_at(chunk, 0)));
+    }
+    if case.kind == STATE {
+        case.state = take(rest, STATE_BYTES)?.to_vec();
     }
     Ok((case, expected))
 }
 
-fn answers(case: &Case) -> Vec<u64> {
-    if case.kind != STEPS {
-        return vec![case.answer()];
-    }
-    let mut answers = vec![3 << 32];
-    if let Ok(table) = table::check(&case.table) {
-        if let Ok(samples) = trace::read(&case.trace, table.signals) {
-            let each = verdicts(&table, case.property as usize, &samples);
-            answers.extend(each.into_iter().map(verdict_answer));
-        }
-    }
-    answers
-}
-
 /// Counts the records, and those that have another answer here.
 pub fn replay(bytes: &[u8]) -> Result<(usize, usize), String> {
-    let (mut records, mut differences) = (0, 0);
+    let (mut records, mut differences, mut last) = (0, 0, Vec::new());
     let mut rest = bytes;
     while !rest.is_empty() {
         let (case, expected) = take_record(&mut rest)?;
+        let answers = case.answers(last_verdict(&last));
         records += 1;
-        differences += (answers(&case) != expected) as usize;
+        differences += (answers != expected) as usize;
+        if case.kind == STEPS {
+            last = answers;
+        }
     }
     Ok((records, differences))
 }

@@ -2,43 +2,17 @@
 //! and with what holds of the definitions at random.
 
 use crate::draft::Draft;
+use crate::fixed::{self, RUNS};
 use crate::judge;
-use crate::properties::{Reading, Verdict};
+use crate::properties::Reading;
 use crate::random::Random;
 use crate::replay::replay;
 use crate::sequences::Word;
 use crate::table;
 use crate::trace::MOST_CYCLES;
 use crate::tree::{self, PropertyForm};
-use crate::{cases, tables, traces};
-use Verdict::{Broken, Pending, Settled};
-
-/// Nodes 0, 1, 2 are a, b, c and node 3 is false; the rows given follow, the last is the root.
-type Run = (&'static str, &'static [[u8; 4]], &'static [u32], Verdict);
-
-const RUNS: [Run; 16] = [
-    ("always a", &[[38, 0, 0, 0]], &[1, 1, 0], Broken(3)),
-    ("always a", &[[38, 0, 0, 0]], &[1, 1], Pending(2)),
-    ("next b", &[[34, 1, 0, 0]], &[1], Pending(1)),
-    ("a until b", &[[39, 0, 1, 0]], &[1, 2], Settled(2)),
-    ("a until b", &[[39, 0, 1, 0]], &[1, 0], Broken(2)),
-    ("weak {a;b}", &[[16, 0, 1, 0], [32, 4, 0, 0]], &[1, 1], Broken(2)),
-    ("weak {a;b}", &[[16, 0, 1, 0], [32, 4, 0, 0]], &[], Pending(0)),
-    ("weak {a[*]}", &[[19, 0, 0, 0], [32, 4, 0, 0]], &[0], Broken(1)),
-    ("weak {a[*]}", &[[19, 0, 0, 0], [32, 4, 0, 0]], &[1, 0], Settled(1)),
-    ("weak {a:b}", &[[17, 0, 1, 0], [32, 4, 0, 0]], &[1], Broken(1)),
-    ("weak {a;false}", &[[16, 0, 3, 0], [32, 4, 0, 0]], &[1], Pending(1)),
-    ("{a;b} |-> c", &[[16, 0, 1, 0], [40, 4, 2, 0]], &[0], Settled(1)),
-    ("{a;b} |=> c", &[[16, 0, 1, 0], [41, 4, 2, 0]], &[1, 2, 0], Broken(3)),
-    ("{a[*]} |=> b", &[[19, 0, 0, 0], [41, 4, 1, 0]], &[0], Settled(1)),
-    ("never {a;b}", &[[16, 0, 1, 0], [42, 4, 0, 0]], &[1, 1, 2], Broken(3)),
-    (
-        "always ({a} |=> weak {b;c})",
-        &[[16, 1, 2, 0], [32, 4, 0, 0], [41, 0, 5, 0], [38, 6, 0, 0]],
-        &[1, 3, 6, 0],
-        Broken(4),
-    ),
-];
+use crate::vectors::Vectors;
+use crate::{cases, monitors, tables, traces};
 
 const EXAMPLE_TABLE: [u8; 42] = [
     0x01, 0x00, 0x03, 0x00, 0x05, 0x00, 0x03, 0x00, 0x10, 0x00, 0x24, 0x00, 0x2A, 0x00, 0x00, 0x00,
@@ -74,13 +48,10 @@ pub fn run() -> Result<(), String> {
 }
 
 fn small_runs() -> Result<(), String> {
-    for (name, more_rows, samples, due) in RUNS {
-        let mut rows = vec![[3, 0, 0, 0], [3, 1, 0, 0], [3, 2, 0, 0], [2, 0, 0, 0]];
-        rows.extend_from_slice(more_rows);
-        let root = rows.len() as u16 - 1;
-        let table = Draft { signals: 3, rows, roots: vec![root] }.bytes();
-        let found = judge::judge(&table, &traces::bytes(3, samples), 0);
-        expect(&format!("{} on {:?}", name, samples), found, Ok(due))?;
+    for run in &RUNS {
+        let case = fixed::judged_run(run);
+        let found = judge::judge(&case.table, &case.trace, 0);
+        expect(&format!("{} on {:?}", run.0, run.2), found, Ok(run.3))?;
     }
     Ok(())
 }
@@ -147,12 +118,13 @@ fn refusal_orders() -> Result<(), String> {
 /// Files are read back as they were written, and cut ones are noticed.
 fn written_files() -> Result<(), String> {
     let mut random = Random::from_seed(3);
-    let files = [
-        (cases::cases(&mut random, 60, 60), 120),
-        (cases::checks(&mut random, 60), 60),
-        (cases::steps(&mut random, 60), 60),
-    ];
-    for (vectors, least) in files {
+    let mut files = [(); 5].map(|_| Vectors::default());
+    cases::cases(&mut random, &mut files[0], 60, 60);
+    cases::checks(&mut random, &mut files[1], 60);
+    monitors::steps(&mut random, &mut files[2], 60);
+    monitors::strays(&mut random, &mut files[3], 60);
+    fixed::fixed(&mut random, &mut files[4]);
+    for (vectors, least) in files.iter().zip([120, 60, 60, 60, 60]) {
         let (records, differences) = replay(&vectors.bytes)?;
         expect("records written", records >= least, true)?;
         expect("answers read back", differences, 0)?;

@@ -3,7 +3,7 @@
 
 use crate::draft::Draft;
 use crate::random::Random;
-use crate::table::{MOST_NODES, MOST_PROPERTIES, MOST_SIGNALS, MOST_WEAK_CELLS};
+use crate::table::{fields_of, MOST_NODES, MOST_PROPERTIES, MOST_SIGNALS, MOST_WEAK_CELLS};
 
 /// Draws rows; `booleans` are the Boolean rows so far, `in_play` the signals worth reading.
 pub struct Maker<'a> {
@@ -98,6 +98,21 @@ impl<'a> Maker<'a> {
         let b = self.sequence_of_cells(cells - left, kinds);
         let kind = self.random.pick(kinds);
         self.push(kind, a, b, 0)
+    }
+
+    /// A Boolean, repeated now and then.
+    fn cell(&mut self) -> u8 {
+        let boolean = self.boolean();
+        match self.random.pick(&[0, 0, 0, 19, 20]) {
+            0 => boolean,
+            kind => self.push(kind, boolean, 0, 0),
+        }
+    }
+
+    /// A weak sequence of so many cells, with as many new rows.
+    fn weak_sequence(&mut self, cells: usize) -> u8 {
+        let sequence = self.sequence_of_cells(cells, &[16, 16, 17, 18]);
+        self.push(32, sequence, 0, 0)
     }
 
     /// A property of at most `size` new rows.
@@ -251,6 +266,79 @@ pub fn overlapping(random: &mut Random) -> Draft {
     };
     maker.root(node);
     maker.finish()
+}
+
+/// A weak sequence of several cells that begins at almost every sample, and whose attempts last:
+/// many are under way at once, each somewhere else in it.
+pub fn pipelined(random: &mut Random) -> Draft {
+    let mut maker = Maker::new(random, 3);
+    let holds = maker.push(1, 0, 0, 0);
+    maker.booleans.extend([holds; 2]);
+    let mut sequence = maker.cell();
+    for _ in 1..maker.random.between(3, MOST_WEAK_CELLS) {
+        let next = maker.cell();
+        let kind = maker.random.pick(&[16, 16, 16, 18]);
+        sequence = maker.push(kind, sequence, next, 0);
+    }
+    let weak = maker.push(32, sequence, 0, 0);
+    let guard = maker.boolean();
+    let kind = maker.random.pick(&[36, 40, 41]);
+    let attempt = maker.push(kind, guard, weak, 0);
+    let node = maker.push(38, attempt, 0, 0);
+    maker.root(node);
+    maker.finish()
+}
+
+/// Many weak sequences in one property: up to 32, up to 64 nodes.
+pub fn crowded(random: &mut Random) -> Draft {
+    let cells = random.pick(&[1, 1, 2, 3, 4, 6]);
+    let first = random.between(1, 3);
+    let is_framed = random.chance(1, 2);
+    let mut maker = Maker::new(random, first);
+    // A weak sequence takes a row for each of its cells, and one that joins it to the others.
+    let most = (MOST_NODES - first - is_framed as usize + 1) / (cells + 1);
+    let some = maker.random.between(1, most);
+    let mut node = maker.weak_sequence(cells);
+    for _ in 1..maker.random.pick(&[some, most]) {
+        let other = maker.weak_sequence(cells);
+        node = match maker.random.chance(1, 4) {
+            true => {
+                let chosen = maker.boolean();
+                maker.push(35, chosen, node, other)
+            }
+            false => maker.push(33, node, other, 0),
+        };
+    }
+    if is_framed {
+        let guard = maker.boolean();
+        node = match maker.random.below(4) {
+            0 => maker.push(39, node, guard, 0),
+            1 => maker.push(41, guard, node, 0),
+            _ => maker.push(38, node, 0, 0),
+        };
+    }
+    maker.root(node);
+    maker.finish()
+}
+
+/// A right layout over rows and roots of any numbers.
+pub fn noise(random: &mut Random) -> Draft {
+    let kinds: Vec<u8> = (1..=42).filter(|&kind| fields_of(kind).is_some()).collect();
+    let nodes = random.pick(&[1, 5, 20, MOST_NODES, MOST_NODES]);
+    let mut rows = Vec::new();
+    for _ in 0..nodes {
+        let any = random.next().to_le_bytes();
+        let below = [(); 3].map(|_| random.below(nodes) as u8);
+        let kind = random.pick(&kinds);
+        rows.push([
+            random.pick(&[kind, kind, any[0]]),
+            random.pick(&[below[0], below[0], any[1]]),
+            random.pick(&[below[1], below[1], any[2]]),
+            random.pick(&[below[2], below[2], any[3]]),
+        ]);
+    }
+    let roots = (0..random.between(1, MOST_PROPERTIES)).map(|_| random.below(nodes) as u16);
+    Draft { signals: 32, roots: roots.collect(), rows }
 }
 
 /// Booleans over Booleans, each row naming the one before it twice: small as rows, not as trees.

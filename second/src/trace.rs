@@ -18,11 +18,16 @@ pub fn read(bytes: &[u8], signals: usize) -> Result<Vec<u32>, Refusal> {
     if !well_formed {
         return refused(15, 0);
     }
-    let samples: Vec<u32> =
-        (0..cycles).map(|cycle| u32_at(bytes, TRACE_HEADER_BYTES + 4 * cycle) as u32).collect();
+    let samples = samples_in(bytes);
     // Cycles count from 1.
     match samples.iter().position(|&sample| u64::from(sample) >> signals != 0) {
         Some(index) => refused(13, index + 1),
         None => Ok(samples),
     }
+}
+
+/// The samples after a header, declared or not.
+pub fn samples_in(bytes: &[u8]) -> Vec<u32> {
+    let samples = bytes.get(TRACE_HEADER_BYTES..).unwrap_or(&[]);
+    samples.chunks_exact(4).map(|sample| u32_at(sample, 0) as u32).collect()
 }

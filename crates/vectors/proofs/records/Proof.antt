@@ -4,54 +4,46 @@ use mathlib.Core.Path.{_≡_, refl, _∙_}
 use lib.ListN.{length}
 use Rattle.vectors.proofs.records.Statement.{statement}
 use Rattle.vectors.proofs.records.Tie as tie
-use Rattle.vectors.proofs.records.Reads as reads
-use Rattle.vectors.proofs.records.Lts as lts
-use Rattle.vectors.proofs.Tally.new.Reads as new-reads
-use Rattle.vectors.proofs.next_record.Reads as next-record-reads
 
 abbrev Inv-loop : tie.InvT-loop
-Inv-loop space₀ turns₀ tally₀ space turns tally = length space ≡ length space₀
+Inv-loop table₀ trace₀ turns₀ c₀ table trace turns c = (length table ≡ length table₀) × (length trace ≡ length trace₀)
 
 abbrev μ-loop : tie.MeasureT-loop
-μ-loop space₀ turns₀ tally₀ space turns tally = turns
+μ-loop table₀ trace₀ turns₀ c₀ table trace turns c = turns
 
--- src/main.rt:198:9
 new-requires : tie.Need-new-requires Inv-loop μ-loop
 new-requires c κs = search needs
 
--- src/main.rt:199:5
 loop-holds : tie.Need-loop-holds Inv-loop μ-loop
-loop-holds c = refl
+loop-holds c = (refl, refl)
 
--- src/main.rt:200:9
 next-record-requires : tie.Need-next-record-requires Inv-loop μ-loop
 next-record-requires c κs = search needs
 
--- src/main.rt:202:13
 same-length : tie.Need-same-length Inv-loop μ-loop
-same-length c = c .before .before .before .next-record .kept .1 .0 ∙ c .before .before .before .before .before .before .loop .inv
+same-length c = c .before .before .before .before .before .next-record .kept .1 .0 ∙ c .before .before .before .before .before .before .before .before .before .loop .inv .0
 
--- src/main.rt:202:13
+same-length-2 : tie.Need-same-length-2 Inv-loop μ-loop
+same-length-2 c = c .before .before .before .before .before .next-record .kept .1 .1 .0 ∙ c .before .before .before .before .before .before .before .before .before .loop .inv .1
+
 returns : tie.Need-returns Inv-loop μ-loop
 returns c = search needs
 
--- src/main.rt:204:9
 sub-turns : tie.Need-sub-turns Inv-loop μ-loop
-sub-turns c = search needs
+sub-turns c = omega arith
 
--- src/main.rt:199:5
 loop-less : tie.Need-loop-less Inv-loop μ-loop
 loop-less c = omega arith
 
--- src/main.rt:199:5
 loop-again : tie.Need-loop-again Inv-loop μ-loop
-loop-again c = c .before .before .before .next-record .kept .1 .0 ∙ c .before .before .before .before .before .before .loop .inv
+loop-again c = (c .before .before .before .before .before .next-record .kept .1 .0 ∙ c .before .before .before .before .before .before .before .before .before .loop .inv .0, c .before .before .before .before .before .next-record .kept .1 .1 .0 ∙ c .before .before .before .before .before .before .before .before .before .loop .inv .1)
 
--- src/main.rt:196:1
-same-length-2 : tie.Need-same-length-2 Inv-loop μ-loop
-same-length-2 c = c .before .loop .inv
+same-length-3 : tie.Need-same-length-3 Inv-loop μ-loop
+same-length-3 c = c .before .loop .inv .0
 
--- src/main.rt:196:1
+same-length-4 : tie.Need-same-length-4 Inv-loop μ-loop
+same-length-4 c = c .before .loop .inv .1
+
 returns-2 : tie.Need-returns-2 Inv-loop μ-loop
 returns-2 c = search needs
 
@@ -65,9 +57,11 @@ records-spec =
     loop-holds
     next-record-requires
     same-length
+    same-length-2
     returns
     sub-turns
     loop-less
     loop-again
-    same-length-2
+    same-length-3
+    same-length-4
     returns-2)

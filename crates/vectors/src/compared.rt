@@ -1,0 +1,113 @@
+// What was compared, by the kind of a record.
+use crate::reading::Head;
+use crate::states::any_step;
+use crate::states::next_state;
+use crate::states::no_monitor;
+use crate::states::steps_on;
+use crate::steps::steps;
+use crate::tally::Tally;
+use crate::tally::more;
+use crate::tally::say;
+use libc::STDOUT_FILENO;
+use monitor::Monitor;
+
+// The records so far and what was compared of them; the last monitor that was opened; whether there are no more.
+pub(crate) struct Compared {
+    records: u64,
+    checks: Tally,
+    steps: Tally,
+    states: Tally,
+    stepped: u64,
+    last: Monitor,
+    pub(crate) ended: bool,
+}
+
+impl Compared {
+    const CHECK: u8 = 1;
+
+    const STEPS: u8 = 3;
+
+    const STATE: u8 = 4;
+
+    const STRAY: u8 = 5;
+
+    pub(crate) fn new() -> Self {
+        Self {
+            records: 0,
+            checks: Tally::new(),
+            steps: Tally::new(),
+            states: Tally::new(),
+            stepped: 0,
+            last: no_monitor(),
+            ended: false,
+        }
+    }
+
+    pub(crate) fn at_end(mut self) -> Self {
+        self.ended = true;
+        self
+    }
+
+    // The records end where none can.
+    pub(crate) fn stopped(self) -> Self {
+        say(b"no whole record after record ");
+        io::print_decimal(STDOUT_FILENO, self.records);
+        say(b"\n");
+        self.at_end()
+    }
+
+    fn with_check(mut self, h: Head, table: &[u8]) -> Self {
+        let t = self.checks;
+        self.checks = t.answered(self.records, h.expected, host::check(table));
+        self
+    }
+
+    fn with_steps(mut self, h: Head, table: &[u8], trace: &[u8]) -> Self {
+        let t = self.steps;
+        let w = steps(t, self.records, h, table, trace);
+        let compared = w.tally;
+        let monitor = w.monitor;
+        self.steps = compared;
+        self.last = monitor;
+        self
+    }
+
+    // One step of any monitor is compared, and the further ones end.
+    fn with_any(mut self, h: Head, m: Monitor, table: &[u8], trace: &[u8]) -> Self {
+        let t = self.states;
+        self.states = any_step(t, self.records, h.expected, m, table, trace);
+        self.stepped = steps_on(self.stepped, m, table, trace);
+        self
+    }
+
+    // The answers to one record more.
+    pub(crate) fn with(mut self, h: Head, table: &[u8], trace: &[u8]) -> Self {
+        self.records = more(self.records);
+        if h.kind == Self::CHECK {
+            return self.with_check(h, table);
+        }
+        if h.kind == Self::STEPS {
+            return self.with_steps(h, table, trace);
+        }
+        if h.kind == Self::STATE {
+            return self.with_any(h, next_state(), table, trace);
+        }
+        if h.kind == Self::STRAY {
+            let last = self.last;
+            return self.with_any(h, last, table, trace);
+        }
+        self.stopped()
+    }
+
+    pub(crate) fn print(self) {
+        let checks = self.checks;
+        checks.print(b"check: ");
+        let steps = self.steps;
+        steps.print(b"steps: ");
+        let states = self.states;
+        states.print(b"states: ");
+        say(b"states: ");
+        io::print_decimal(STDOUT_FILENO, self.stepped);
+        say(b" stepped, all ended\n");
+    }
+}

@@ -1,0 +1,92 @@
+//! Decides the cases of the fixed file: the small runs of the document, opening refused for each
+//! reason, the count limit and verdicts already given, and some random cases.
+
+use crate::draft::Draft;
+use crate::properties::Verdict;
+use crate::random::Random;
+use crate::states::State;
+use crate::vectors::{Case, Vectors, STATE, STEPS};
+use crate::{cases, monitors, traces};
+use Verdict::{Broken, Pending, Settled};
+
+/// Nodes 0, 1, 2 are a, b, c and node 3 is false; the rows given follow, the last is the root.
+pub type Run = (&'static str, &'static [[u8; 4]], &'static [u32], Verdict);
+
+pub const RUNS: [Run; 16] = [
+    ("always a", &[[38, 0, 0, 0]], &[1, 1, 0], Broken(3)),
+    ("always a", &[[38, 0, 0, 0]], &[1, 1], Pending(2)),
+    ("next b", &[[34, 1, 0, 0]], &[1], Pending(1)),
+    ("a until b", &[[39, 0, 1, 0]], &[1, 2], Settled(2)),
+    ("a until b", &[[39, 0, 1, 0]], &[1, 0], Broken(2)),
+    ("weak {a;b}", &[[16, 0, 1, 0], [32, 4, 0, 0]], &[1, 1], Broken(2)),
+    ("weak {a;b}", &[[16, 0, 1, 0], [32, 4, 0, 0]], &[], Pending(0)),
+    ("weak {a[*]}", &[[19, 0, 0, 0], [32, 4, 0, 0]], &[0], Broken(1)),
+    ("weak {a[*]}", &[[19, 0, 0, 0], [32, 4, 0, 0]], &[1, 0], Settled(1)),
+    ("weak {a:b}", &[[17, 0, 1, 0], [32, 4, 0, 0]], &[1], Broken(1)),
+    ("weak {a;false}", &[[16, 0, 3, 0], [32, 4, 0, 0]], &[1], Pending(1)),
+    ("{a;b} |-> c", &[[16, 0, 1, 0], [40, 4, 2, 0]], &[0], Settled(1)),
+    ("{a;b} |=> c", &[[16, 0, 1, 0], [41, 4, 2, 0]], &[1, 2, 0], Broken(3)),
+    ("{a[*]} |=> b", &[[19, 0, 0, 0], [41, 4, 1, 0]], &[0], Settled(1)),
+    ("never {a;b}", &[[16, 0, 1, 0], [42, 4, 0, 0]], &[1, 1, 2], Broken(3)),
+    (
+        "always ({a} |=> weak {b;c})",
+        &[[16, 1, 2, 0], [32, 4, 0, 0], [41, 0, 5, 0], [38, 6, 0, 0]],
+        &[1, 3, 6, 0],
+        Broken(4),
+    ),
+];
+
+/// A small run as a trace that is judged.
+pub fn judged_run((_, more_rows, samples, _): &Run) -> Case {
+    let mut rows = vec![[3, 0, 0, 0], [3, 1, 0, 0], [3, 2, 0, 0], [2, 0, 0, 0]];
+    rows.extend_from_slice(more_rows);
+    let root = rows.len() as u16 - 1;
+    let table = Draft { signals: 3, rows, roots: vec![root] }.bytes();
+    Case::judge(table, traces::bytes(3, samples), 0)
+}
+
+/// A monitor of `always a` at a verdict, and a sample; 8 is one that sets a bit not declared.
+const MOST: u32 = u32::MAX;
+const PLACES: [(Verdict, u32); 12] = [
+    (Pending(MOST), 1),
+    (Pending(MOST), 0),
+    (Pending(MOST), 8),
+    (Pending(MOST - 1), 1),
+    (Pending(MOST - 1), 0),
+    (Pending(MOST - 1), 8),
+    (Broken(7), 1),
+    (Broken(7), 8),
+    (Settled(7), 0),
+    (Settled(7), 8),
+    (Broken(MOST), 1),
+    (Settled(MOST), 0),
+];
+
+fn place((verdict, sample): (Verdict, u32)) -> Case {
+    let table = Draft { signals: 3, rows: vec![[3, 0, 0, 0], [38, 0, 0, 0]], roots: vec![1] };
+    let (code, cycle) = match verdict {
+        Broken(cycle) => (1, cycle),
+        Settled(cycle) => (2, cycle),
+        Pending(cycle) => (3, cycle),
+    };
+    // Row 0 is its Boolean; row 1, always, is running.
+    let state = State { words: [1, 0, 0, 2, 0, 0], families: [0; 32], cycle, code, root: 1 };
+    let trace = traces::bytes(3, &[sample, 1, 8, 0]);
+    Case { kind: STATE, property: 0, table: table.bytes(), trace, state: state.bytes() }
+}
+
+pub fn fixed(random: &mut Random, vectors: &mut Vectors) {
+    for run in &RUNS {
+        let case = Case { kind: STEPS, ..judged_run(run) };
+        vectors.record_steps(&case);
+    }
+    for number in 1..=monitors::WRONG_PROPERTY {
+        monitors::add_refused_opening(random, vectors, number);
+    }
+    for at in PLACES {
+        vectors.record_stray(&place(at));
+    }
+    cases::checks(random, vectors, 200);
+    monitors::steps(random, vectors, 60);
+    monitors::strays(random, vectors, 60);
+}
