@@ -14,9 +14,12 @@ tools=$kit/on/$(uname -m)/toolchain
 emulator=$tools/bin/qemu-x86_64
 [ -x "$emulator" ] || emulator=
 
+# A command before those below, as one that gives up rights; none as long as a script sets none.
+before=
+
 # Runs an x86-64 program that needs nothing beside itself: under the kit's emulator where the machine is no x86-64.
 emulated() { # PROGRAM [WORD..]
-    ${emulator:+"$emulator"} "$@"
+    $before ${emulator:+"$emulator"} "$@"
 }
 
 # Runs a program that rt linked, as rt does: with the kit's loader and C library.
@@ -28,9 +31,9 @@ linked() { # PROGRAM [WORD..]
 need() { # COMMAND PACKAGE..
     command -v "$1" >/dev/null && return
     shift
-    as=
-    [ "$(id -u)" -eq 0 ] || as=sudo
-    said=$({ $as apt-get update -qq && DEBIAN_FRONTEND=noninteractive $as apt-get install -y -qq --no-install-recommends "$@"; } 2>&1) || {
+    root=
+    [ "$(id -u)" -eq 0 ] || root=sudo
+    said=$({ $root apt-get update -qq && DEBIAN_FRONTEND=noninteractive $root apt-get install -y -qq --no-install-recommends "$@"; } 2>&1) || {
         echo "$said"
         echo "cannot be installed: $*"
         return 1
