@@ -1,0 +1,108 @@
+/* yulbravi.h: the table check and the judge, for a host in C (C99 or later) or C++.
+ *
+ * Link target/staticlib/libhost.a, which `rt staticlib host` proves and writes, for x86-64. Both functions only read the bytes that
+ * they are lent, for the time of the call; they keep nothing, allocate nothing and call nothing but memcpy, so threads may call them
+ * at once. Any bytes of any length get an answer. A pointer is not null, and points to as many bytes as its length says.
+ *
+ * An answer is one number of 64 bits:
+ *
+ *   bits 63..34   0
+ *   bits 33..32   kind: 0 refused, 1 broken, 2 settled, 3 pending
+ *   bits 31..0    of a verdict: its cycle
+ *   bits 31..20   of a refusal: 0
+ *   bits 19..16   of a refusal: its number, 1 to 15
+ *   bits 15..0    of a refusal: its place
+ *
+ * 0 alone says that a table is accepted. Only `check` answers 0.
+ */
+#ifndef YULBRAVI_H
+#define YULBRAVI_H
+
+#include <stddef.h>
+#include <stdint.h>
+
+#ifdef __cplusplus
+extern "C" {
+#endif
+
+/* 0 if the table is accepted; else its refusal, number 1 to 11. */
+uint64_t check(const uint8_t *table, size_t table_len);
+
+/* The verdict on a property of the table, numbered from 0, after the whole trace; or the first refusal in the order
+ * 1 to 11 (table), 12 (property), 15 (trace file), 13 (lowest cycle). */
+uint64_t judge(const uint8_t *table, size_t table_len, const uint8_t *trace, size_t trace_len, uint32_t property);
+
+/* Kinds of answers. A broken or settled property stays so however the recording goes on; pending is not a pass. */
+enum {
+    YULBRAVI_REFUSED = 0, /* nothing was judged: see the refusal's number and place */
+    YULBRAVI_BROKEN = 1,  /* the first `cycle` samples are the shortest stretch that breaks the property */
+    YULBRAVI_SETTLED = 2, /* the first `cycle` samples are the shortest stretch that secures it */
+    YULBRAVI_PENDING = 3  /* the trace does neither; `cycle` is the number of samples in it */
+};
+
+/* Numbers of refusals, and what the place of each is. */
+enum {
+    YULBRAVI_TABLE_SHORT = 1,         /* fewer than 16 bytes; 0 */
+    YULBRAVI_TABLE_VERSION = 2,       /* version not 1; 0 */
+    YULBRAVI_TABLE_COUNTS = 3,        /* signals, rows or properties outside their ranges; 0 */
+    YULBRAVI_TABLE_LENGTH = 4,        /* an offset, the total or the length given is wrong; 0 */
+    YULBRAVI_KIND_UNKNOWN = 5,        /* a row's kind is not in the list of kinds; the row */
+    YULBRAVI_KIND_STRONG = 6,         /* next!, until! or eventually!; the row */
+    YULBRAVI_FIELD_WRONG = 7,         /* operand not below its row, signal not declared, or unused field not 0; the row */
+    YULBRAVI_CLASS_WRONG = 8,         /* an operand of a class that the kind does not take; the row */
+    YULBRAVI_ROOT_WRONG = 9,          /* a root that is no row, or a sequence; the property */
+    YULBRAVI_USED_NOT_ONCE = 10,      /* a sequence or property row used never or twice; the lowest such row */
+    YULBRAVI_CELLS_TOO_MANY = 11,     /* a weak sequence of more than 6 cells; the lowest such row */
+    YULBRAVI_PROPERTY_UNKNOWN = 12,   /* property number not below the table's count; 0 */
+    YULBRAVI_SIGNAL_UNDECLARED = 13,  /* a sample sets a bit that is no signal; the lowest such cycle, from 1 */
+    YULBRAVI_CYCLES_TOO_MANY = 14,    /* a monitor's count is full; 0. Neither function answers it: a trace file is shorter */
+    YULBRAVI_TRACE_WRONG = 15         /* the trace's header or length is wrong, or it is of other signals; 0 */
+};
+
+/* The most bytes that an accepted table and a trace that is judged have: a host that reads one more sees that a file is too long. */
+enum {
+    YULBRAVI_TABLE_BYTES = 288,  /* 16 + 4 * 64 rows + 2 * 8 properties */
+    YULBRAVI_TRACE_BYTES = 65536 /* 12 + 4 * 16381 cycles */
+};
+
+/* YULBRAVI_REFUSED, .._BROKEN, .._SETTLED or .._PENDING. Not to be asked of `check`, whose 0 is no refusal. */
+static inline unsigned yulbravi_kind(uint64_t answer)
+{
+    return (unsigned)(answer >> 32);
+}
+
+/* The cycle of a verdict: the number of samples in the stretch that it speaks of. */
+static inline uint32_t yulbravi_cycle(uint64_t answer)
+{
+    return (uint32_t)answer;
+}
+
+/* The number of a refusal, 1 to 15; 0 for the answer of `check` to an accepted table. */
+static inline unsigned yulbravi_number(uint64_t answer)
+{
+    return (unsigned)(answer >> 16) & 0xFFFFu;
+}
+
+/* The place of a refusal. */
+static inline unsigned yulbravi_place(uint64_t answer)
+{
+    return (unsigned)answer & 0xFFFFu;
+}
+
+/* Properties of an accepted table: they are numbered from 0 to one less. */
+static inline uint32_t yulbravi_properties(const uint8_t *table)
+{
+    return (uint32_t)table[6] | (uint32_t)table[7] << 8;
+}
+
+/* Cycles of a trace that `judge` does not refuse. */
+static inline uint32_t yulbravi_cycles(const uint8_t *trace)
+{
+    return (uint32_t)trace[4] | (uint32_t)trace[5] << 8 | (uint32_t)trace[6] << 16 | (uint32_t)trace[7] << 24;
+}
+
+#ifdef __cplusplus
+}
+#endif
+
+#endif
