@@ -1,8 +1,9 @@
 /* yulbravi.h: the table check and the judge, for a host in C (C99 or later) or C++.
  *
  * Link target/staticlib/libhost.a, which `rt staticlib host` proves and writes, for x86-64. Both functions only read the bytes that
- * they are lent, for the time of the call; they keep nothing, allocate nothing and call nothing but memcpy, so threads may call them
- * at once. Any bytes of any length get an answer. A pointer is not null, and points to as many bytes as its length says.
+ * they are lent, for the time of the call; they keep nothing, allocate nothing and call nothing (but memcpy, where a compiler puts one),
+ * so threads may call them at once. Any bytes of any length get an answer. A pointer is not null, and points to as many bytes as its
+ * length says.
  *
  * An answer is one number of 64 bits:
  *
