@@ -126,10 +126,6 @@ planned-one t c z root l proper r s p q =
     let h = plan-one t c z l (p .1 c z l proper) (q .1 c z l proper) in
     λ i. record { booleans = h .0 i; sides = h .1 i; weaks = h .2 i; root = (p .0 ∙ sym (q .0)) i }
 
--- `nothing`
-pub nothing-one : (r s : Expected) → (r .held ≡ 0) × (r .live .a ≡ 0) × (r .live .b ≡ 0) → (s .held ≡ 0) × (s .live .a ≡ 0) × (s .live .b ≡ 0) → r ≡ s
-nothing-one r s p q = λ i. record { held = (p .0 ∙ sym (q .0)) i; live = record { a = (p .1 ∙ sym (q .1)) i; b = (p .2 ∙ sym (q .2)) i } }
-
 -- a weak sequence has a row below 64
 pub weak-low : {t : List ℕ} {c : Counts} {root booleans sides weaks : ℕ} → Subset t c → root < c .nodes → Planned t root booleans sides weaks → (n : ℕ) → bit weaks n ≡ true → n < 64
 weak-low z l p n b = omega (arith, p .up-to-root n (p .weak-rows n b .0), z .layout .nodes-range)

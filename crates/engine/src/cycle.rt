@@ -32,14 +32,6 @@ pub struct Expected {
     pub live: Live,
 }
 
-// Before the first cycle nothing is expected.
-pub fn nothing() -> Expected
-    ensures { λ r. ⌜ (r .held ≡ 0) × (r .live .a ≡ 0) × (r .live .b ≡ 0) ⌝ }
-{
-    let live = Live { a: 0, b: 0 };
-    Expected { held: 0, live }
-}
-
 // What a sample does: what is expected after it; whether it breaks the property; whether nothing is expected any more.
 pub struct Outcome {
     pub expected: Expected,

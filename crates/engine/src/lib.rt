@@ -8,3 +8,5 @@ mod sides;
 mod truths;
 mod weak_parts;
 mod weak_uses;
+
+pub use sides::Live;

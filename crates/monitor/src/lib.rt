@@ -16,6 +16,7 @@ ghost use Rattle.monitor.specs.Goes.{Goes};
 
 pub mod entry;
 
+use engine::Live;
 use engine::cycle::Expected;
 use engine::cycle::Outcome;
 use engine::plan::Plan;
@@ -69,7 +70,8 @@ pub struct Opened {
 fn fresh(plan: Plan) -> Monitor
     ensures { λ r. ⌜ Fresh plan r ⌝ }
 {
-    let expected = engine::cycle::nothing();
+    let live = Live { a: 0, b: 0 };
+    let expected = Expected { held: 0, live };
     let stand = Stand {
         verdict: Verdict::Pending(0),
         expected,
