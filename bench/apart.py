@@ -1,15 +1,14 @@
-"""apart.py MODULE NAME..: marks functions of an LLVM module in text as external and never inlined."""
+"""apart.py MODULE NAME: marks a function of an LLVM module in text as external and never inlined."""
 import re
 import sys
 
-path, names = sys.argv[1], sys.argv[2:]
-lines = []
+path, name = sys.argv[1:]
+lines, met = [], False
 for line in open(path):
-    head = re.match(r'define (.*?)@"([^"]+)"\(', line)
-    if head and head.group(2) in names:
-        names.remove(head.group(2))
+    if re.match('define internal [^@]*@"%s"\\(' % re.escape(name), line):
         line = line.replace("define internal ", "define ", 1).replace(") #", ") noinline #", 1)
+        met = True
     lines.append(line)
-if names:
-    sys.exit("apart: not in the program: " + " ".join(names))
+if not met:
+    sys.exit("apart: not in the program: " + name)
 open(path, "w").writelines(lines)

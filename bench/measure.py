@@ -1,6 +1,6 @@
-"""measure.py WORK LIB FUNCTION..: measures with what bench/run has built in WORK, prints the table, puts it into docs/CONTROLLER.md, draws docs/bench.svg.
+"""measure.py WORK LIB: measures with what bench/run has built in WORK, prints the table, puts it into docs/CONTROLLER.md, draws docs/bench.svg.
 
-LIB has the loader and the C library that the proved program runs with; the stack of each FUNCTION is read. Instructions per sample are those of a trace of 2N cycles less those of
+LIB has the loader and the C library that the proved program runs with. Instructions per sample are those of a trace of 2N cycles less those of
 one of N, by N: what is done once for a file falls out.
 """
 import functools
@@ -91,11 +91,12 @@ def file_rows():
     yield compared("the same file, per sample and property", case, ours / samples, twin / samples)
 
 
-def size_rows(functions):
+def size_rows():
     """State and stack."""
-    rows = [("bytes of state: `Monitor`", stack.bytes_copied(os.path.join(WORK, "apart.ll"), "monitor::step", 2), 320)]
-    frames = stack.frames(os.path.join(WORK, "apart.o"))
-    rows += [("bytes of stack: `%s` with all it calls" % name, stack.deepest(frames, name)[0], 2048) for name in functions]
+    rows = [("bytes of state: `Monitor`", stack.bytes_copied(os.path.join(WORK, "step.ll"), "monitor::step", 2), 320)]
+    for file, name in ("step", "monitor::step"), ("advance", "monitor::entry::advance"):
+        deepest = stack.deepest(stack.frames(os.path.join(WORK, file + ".o")), name)[0]
+        rows.append(("bytes of stack: `%s` with all it calls" % file, deepest, 2048))
     return [[name, "", number(ours), number(goal), told(ours <= goal), "", "", ""] for name, ours, goal in rows]
 
 
@@ -138,7 +139,7 @@ def put_in_page(text):
 
 
 def main():
-    rows = [compared(c.name, c, *both(per_sample, c)) for c in cases.STANDARD] + list(file_rows()) + size_rows(sys.argv[3:])
+    rows = [compared(c.name, c, *both(per_sample, c)) for c in cases.STANDARD] + list(file_rows()) + size_rows()
     table = lines(["Instructions per sample and property", "Rows", "Ours", "Goal", "", "In C", "Ours / C", "At most 1.25"], rows)
     print(table, end="")
     put_in_page(table)
