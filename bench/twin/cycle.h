@@ -62,13 +62,23 @@ static uint64_t truths(const uint8_t *table, uint64_t booleans, uint32_t sample)
 }
 
 /* Left sides and never, upwards. A part: 1 entered now it ends now, 2 an attempt under way ends it, 4 it can be empty. */
-static uint8_t seen(uint8_t part, int live) { return part | (live ? (part & 1) << 1 : 0); }
+static uint8_t seen(uint8_t v, int live, uint64_t truth, const uint8_t parts[64]) {
+    if (live) return bit(truth, v) ? 3 : 0;
+    return parts[v];
+}
+
+static uint8_t then_part(uint8_t a, uint8_t b) {
+    if (!((a | b) & 4)) return b & 2;
+    return (b & (2 | (a & 4) >> 2)) | (b & 4 ? a & 3 : 0) | (a & b & 4);
+}
+
+static uint8_t then_row(uint8_t a, uint8_t v, int live, uint64_t truth, const uint8_t parts[64]) {
+    if (live) return bit(truth, v) ? 2 | (a & 4) >> 2 : 0;
+    return then_part(a, parts[v]);
+}
 
 static uint8_t side_part(uint8_t kind, uint8_t a, uint8_t b) {
     switch (kind) {
-    case 16:
-        if (!((a | b) & 4)) return b & 2;
-        return (b & (2 | (a & 4) >> 2)) | (b & 4 ? a & 3 : 0) | (a & b & 4);
     case 17: return (b & 2) | (b & 1 ? a & 3 : 0);
     case 18: return a | b;
     case 19: return a | 4;
@@ -82,13 +92,15 @@ static Hits sides_up(const uint8_t *table, Plan plan, uint64_t truth, Expected w
     for (uint64_t left = plan.booleans; left; left &= left - 1) parts[lowest(left)] = bit(truth, lowest(left));
     for (uint64_t left = plan.sides; left; left &= left - 1) {
         int n = lowest(left);
-        uint8_t kind = KIND(n), a = seen(parts[A(n)], bit(was.a, n));
+        uint8_t kind = KIND(n), a = seen(A(n), bit(was.a, n), truth, parts);
         lefts[n] = a;
-        if (kind >= 32) {
+        if (kind == 16) {
+            parts[n] = then_row(a, B_(n), bit(was.b, n), truth, parts);
+        } else if (kind >= 32) {
             hits.ends = with(hits.ends, n, (a & 2) != 0);
             hits.early = with(hits.early, n, a & 1);
         } else {
-            parts[n] = side_part(kind, a, kind <= 18 ? seen(parts[B_(n)], bit(was.b, n)) : 0);
+            parts[n] = side_part(kind, a, kind <= 18 ? seen(B_(n), bit(was.b, n), truth, parts) : 0);
         }
     }
     return hits;
@@ -137,7 +149,11 @@ static Pass properties_down(const uint8_t *table, uint64_t first, uint64_t leave
 static uint8_t side_ended(uint8_t a, uint8_t used) { return (a | (a & used & 1) << 1) & 2; }
 
 static uint8_t side_right(uint8_t kind, uint8_t a, uint8_t used) {
-    if (kind == 16) return side_ended(a, used) | (a & 4 ? used : 0);
+    if (kind == 16) {
+        if (a == 0) return 0;
+        if ((a & 6) == 2) return 2;
+        return side_ended(a, used) | (a & 4 ? used : 0);
+    }
     return kind == 17 ? side_ended(a, used) >> 1 : used;
 }
 
