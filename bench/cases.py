@@ -11,15 +11,16 @@ class Case:
         self.properties = len(properties)
 
 
+# Every kind of property in 35 rows; none has more than five rows of its own beside the signals.
 EIGHT = [
     "always (s0 -> next s1)",
     "always ({s0; s1} |=> s2)",
     "always (s3 until s4)",
     "never {s5; !s6}",
-    "always ({s0} |=> weak {s1; s2})",
     "always (if s0 then next s1 else s7)",
     "always (s0 -> next next s2)",
-    "always ({s0; s1[*]; s2} |-> s3)",
+    "always ((s1 -> next s2) and (s6 or s4))",
+    "always (s0 -> weak {s1; s2})",
 ]
 EIGHT_TURN = "s0 s1 s2 s3 s5 s6 s7"
 

@@ -214,6 +214,7 @@ static uint8_t weak_ended(uint8_t a, Use u) { return shifted(a, u.place) | (a & 
 
 static Use weak_right(uint8_t kind, uint8_t a, uint8_t k, Use u) {
     uint8_t place = u.place + k;
+    if (kind == 16 && a < 64) return (Use){place, 0, shifted(a, u.place)};
     if (kind == 16) return (Use){place, a & 128 ? u.into : 0, weak_ended(a, u) | (a & 128 ? u.go : 0)};
     if (kind == 17) return (Use){place, weak_ended(a, u), 0};
     return (Use){place, u.into, u.go};
