@@ -49,8 +49,11 @@ static uint64_t truths(const uint8_t *table, uint64_t booleans, uint32_t sample)
     uint64_t truth = 0;
     for (; booleans; booleans &= booleans - 1) {
         int n = lowest(booleans), on;
+        if (KIND(n) == 3) {
+            truth = with(truth, n, bit(sample, A(n)));
+            continue;
+        }
         switch (KIND(n)) {
-        case 3: on = bit(sample, A(n)); break;
         case 4: on = !bit(truth, A(n)); break;
         case 5: on = bit(truth, A(n)) & bit(truth, B_(n)); break;
         case 6: on = bit(truth, A(n)) | bit(truth, B_(n)); break;
