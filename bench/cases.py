@@ -41,7 +41,17 @@ SIX = "weak {s0; s0; s0; s0; s0; s0}"
 # of them lives five cycles, so that its family has five sets at most.
 LOOPING = "weak {s0[*]; {s1; s1; s1; s1}[*]; false}"
 PLAIN = "weak {s1; s1; s1; s1; s1; s1}"
+SEVEN = [all_of([LOOPING] * 6 + [PLAIN])]
 LOOPING_TURN = ", ".join(["s1"] + ["s0 s1"] * 12)
+
+NINE = Case("`always` over nine weak of six cells, 5 sets each", [all_of([SIX] * 9)], "s0", 6000)
+FULLEST = Case("`always` over seven weak of six cells, 16 sets in six", SEVEN, LOOPING_TURN, 12000)
+# With s0 off a looping family has a set for each place in the loop.
+SPARSE = Case("the same, 4 sets in six", SEVEN, "s1")
+# A turn of FULLEST has 202 sets in its 13 cycles, in each of six families.
+MORE_SETS = 6 * (202 / 13 - 4)
+FULL = Case("nine weak, 63 sets each: reckoned, no trace does it", [all_of([SIX] * 9)], "s0", 12000)
+FULL_SETS = 9 * (63 - 5)
 
 STANDARD = [
     Case("`always (s0 -> next s1)`", EIGHT[:1], "s0 s1", 250),
@@ -49,8 +59,8 @@ STANDARD = [
     Case("`always ({s0} |=> weak {s1;s2})`", ["always ({s0} |=> weak {s1; s2})"], "s0 s1 s2", 600),
     Case("eight small properties, each", EIGHT, EIGHT_TURN, 300),
     Case("`never` of 62 cells, 61 of them live", [never(62)], "s0", 4000),
-    Case("`always` over nine weak of six cells, 5 sets each", [all_of([SIX] * 9)], "s0", 6000),
-    Case("`always` over seven weak of six cells, 16 sets in six", [all_of([LOOPING] * 6 + [PLAIN])], LOOPING_TURN, 12000),
+    NINE,
+    FULLEST,
 ]
 WHOLE_FILE = Case("a file of 16,381 cycles, eight properties", EIGHT, EIGHT_TURN)
 
