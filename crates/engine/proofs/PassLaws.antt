@@ -220,39 +220,57 @@ module _ (t : List ℕ) (leaves first : ℕ) (l : Letter) (x root : ℕ) (node :
         low k false e = refl
         low k true e = sym (lt-ltb k (suc root) (omega (arith, rows .up-to-root k (seen (record { begin = bit first; held = bit 0; broken = false }) k (rows .first-in) e .2))))
 
-    pub going-turn : {p r : Pass} {left n : ℕ} (rest : ℕ) → Going p left → 0 < left → Highest left n → stageOf r ≡ visitAt t n l (stageOf p)
-        → ((k : ℕ) → bit rest k ≡ visited (r .begin) (l .was) (l .hits .ends) leaves k && ltb k n) → Going r rest
-    unfolding stageOf
-    going-turn {p} {r} {left} {n} rest g some high step is = record {
-      from = n;
-      sofar = subst (Sofar first (l .was) x root node reached hit n) (sym step) (sofar-visit first (l .was) x root node reached hit done row does-it);
-      left-is = is;
-    }
-      where
-        s : Stage
-        s = stageOf p
+    pub start-from : (left : ℕ) (is : (k : ℕ) → bit left k ≡ visited first (l .was) (l .hits .ends) leaves k) → going-start left is .from ≡ suc root
+    unfolding going-start
+    start-from left is = refl
 
-        f : Sofar first (l .was) x root node reached hit (g .from) s
-        f = g .sofar
+    -- the highest row of those that are left is taken
+    module _ {p : Pass} {left n : ℕ} (g : Going p left) (some : 0 < left) (high : Highest left n) where
+      abbrev s : Stage
+      s = stageOf p
 
-        both : (visited (p .begin) (l .was) (l .hits .ends) leaves n ≡ true) × (ltb n (g .from) ≡ true)
-        both = and-parts (visited (p .begin) (l .was) (l .hits .ends) leaves n) (ltb n (g .from)) (sym (g .left-is n) ∙ high .set some)
+      f : Sofar first (l .was) x root node reached hit (g .from) s
+      f = g .sofar
 
-        at : ((s .begin n || bit (l .was) n) || bit (l .hits .ends) n ≡ true) × (bit leaves n ≡ false) × (reached n ≡ true)
-        at = seen s n (f .inside) (both .0)
+      both : (visited (p .begin) (l .was) (l .hits .ends) leaves n ≡ true) × (ltb n (g .from) ≡ true)
+      both = and-parts (visited (p .begin) (l .was) (l .hits .ends) leaves n) (ltb n (g .from)) (sym (g .left-is n) ∙ high .set some)
 
-        under : n < g .from
-        under = ltb-true n (g .from) (both .1)
+      at : ((s .begin n || bit (l .was) n) || bit (l .hits .ends) n ≡ true) × (bit leaves n ≡ false) × (reached n ≡ true)
+      unfolding stageOf
+      at = seen s n (f .inside) (both .0)
 
-        row : PropertyRow t (l .truth) x reached n (node n)
-        row = rows .row n (at .2) (at .1)
+      pub under : n < g .from
+      under = ltb-true n (g .from) (both .1)
 
-        done : Sofar first (l .was) x root node reached hit (suc n) s
-        done = sofar-skip first (l .was) x root node reached hit (suc n) f under
-            (λ k a b. quiet-row s k (not-left (visited (p .begin) (l .was) (l .hits .ends) leaves k) (ltb k (g .from)) (sym (g .left-is k) ∙ high .above k a) (lt-ltb k (g .from) b)))
+      row : PropertyRow t (l .truth) x reached n (node n)
+      row = rows .row n (at .2) (at .1)
 
-        does-it : Does (node n) x n (bit (l .was) n) (hit n (s .begin n)) s (visitAt t n l s)
-        does-it = visit-does t l x n reached (high .small some) s (hit n (s .begin n)) (at .0) (rows .ends-over n) row (rows .was-kept n) (λ k. rows .hits n (at .2) (at .1) k (s .begin n))
+      done : Sofar first (l .was) x root node reached hit (suc n) s
+      unfolding stageOf
+      done = sofar-skip first (l .was) x root node reached hit (suc n) f under
+          (λ k a b. quiet-row s k (not-left (visited (p .begin) (l .was) (l .hits .ends) leaves k) (ltb k (g .from)) (sym (g .left-is k) ∙ high .above k a) (lt-ltb k (g .from) b)))
+
+      does-it : Does (node n) x n (bit (l .was) n) (hit n (s .begin n)) s (visitAt t n l s)
+      does-it = visit-does t l x n reached (high .small some) s (hit n (s .begin n)) (at .0) (rows .ends-over n) row (rows .was-kept n) (λ k. rows .hits n (at .2) (at .1) k (s .begin n))
+
+      module _ (r : Pass) (step : stageOf r ≡ visitAt t n l (stageOf p)) where
+        pub going-turn : (rest : ℕ) → ((k : ℕ) → bit rest k ≡ visited (r .begin) (l .was) (l .hits .ends) leaves k && ltb k n) → Going r rest
+        going-turn rest is = record {
+          from = n;
+          sofar = subst (Sofar first (l .was) x root node reached hit n) (sym step) (sofar-visit first (l .was) x root node reached hit done row does-it);
+          left-is = is;
+        }
+
+        pub turn-from : (rest : ℕ) (is : (k : ℕ) → bit rest k ≡ visited (r .begin) (l .was) (l .hits .ends) leaves k && ltb k n) → going-turn rest is .from ≡ n
+        unfolding going-turn
+        turn-from rest is = refl
+
+        -- rows from n on begin as before
+        pub begin-above : (k : ℕ) → n ≤ k → bit (r .begin) k ≡ bit (p .begin) k
+        unfolding stageOf
+        begin-above k a =
+            ap (λ (z : Stage). z .begin k) step ∙ does-it .sent k
+            ∙ ap (λ (b : Bool). bit (p .begin) k || b) (sends-lower row (s .begin n) (bit (l .was) n) (hit n (s .begin n)) k a) ∙ or-false (bit (p .begin) k)
 
     pub going-end : {p : Pass} → Going p 0 → Passed first (l .was) x root node hit (p .begin) (p .held) (p .broken)
     unfolding stageOf

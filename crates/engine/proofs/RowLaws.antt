@@ -1,16 +1,21 @@
 -- Where the fields of a row stand, and which rows the bytes hold.
-use Prim.Native.Nat.{ℕ, _+_, _*_, _^_, _<_}
+use Prim.Native.Nat.{ℕ, _+_, _-_, _*_, _/_, _%_, _^_, _≤_, _<_}
+use native.Mathlib.Nat.{one-mul}
 use native.Mathlib.Omega.{arith}
-use native.Mathlib.Decide.{decLt}
-use mathlib.Core.Path.{_≡_, refl, ap}
-use mathlib.Core.Bool.{Bool, true, false, not}
+use mathlib.Core.Path.{_≡_, refl, sym, _∙_, ap, ap₂, subst}
+use mathlib.Core.Bool.{Bool, true, false, not, _&&_}
 use mathlib.Core.List.{List}
-use lib.ListN.{getD}
-use Rattle.psl.specs.Proof.Decide.Tells.{Tells, does, doesnt}
+use lib.Bits.{bitAnd, and-lt}
+use lib.Dec.{eqb, ltb}
+use lib.ListN.{length, getD}
+use lib.Pow.{shl-exact, pow-pos, ones-sub-lt}
+use borrow.Author.Tests.{lt-ltb, ltb-true}
+use Rattle.psl.specs.Booleans.{bit}
+use Rattle.psl.specs.Proof.Decide.Tells.{Tells, tells-iff, tells-eq}
 use Rattle.table.specs.Rows.{rowAt, edgeRow}
-use Rattle.words.specs.Sets.{HasFrom}
-use Rattle.words.specs.Bits.{set-below}
-use Rattle.engine.specs.Reads.{kindOf, aOf, bOf, cOf, Held, Within}
+use Rattle.words.specs.Bits.{bit-none, bit-and, bit-not, bit-ones, set-below, no-bits}
+use Rattle.engine.specs.Reads.{kindOf, aOf, bOf, cOf, Held, Within, HeldRows}
+use Rattle.engine.proofs.SideRowLaws.{clash}
 
 module _ (t : List ℕ) (n : ℕ) where
   pub kind-read : getD t (16 + 4 * n) 0 ≡ kindOf t n
@@ -29,10 +34,56 @@ module _ (t : List ℕ) (n : ℕ) where
   unfolding rowAt edgeRow
   c-read = let e : 19 + 4 * n ≡ 16 + 4 * n + 3 = omega arith in ap (λ (k : ℕ). getD t k 0) e
 
--- The bytes hold each row of a set where the set has no row from the first on that they do not hold.
-pub covers-is : (t : List ℕ) (rows count : ℕ) (b : Bool) → rows < 2 ^ 64 → ((n : ℕ) → n < 64 → (n < count → Held t n) × (Held t n → n < count)) → Tells (HasFrom rows count) b → Tells (Within t rows) (not b)
-covers-is t rows count true fits counts (does h) = doesnt (λ w. apart (counts (h .0) (set-below 64 rows (h .0) fits (h .2)) .1 (w (h .0) (h .2))))
-  where
-    apart : h .0 < count → ⊥
-    apart l = omega (arith, h .1)
-covers-is t rows count false fits counts (doesnt none) = does (λ n set. elim (decLt n count) [ yes l ↦ counts n (set-below 64 rows n fits set) .0 l | no l ↦ absurd (none (n, omega arith, set)) ])
+-- ---- the rows that the bytes hold
+
+shifted-is : (count : ℕ) → count < 64 → 1 * 2 ^ count % 2 ^ 64 ≡ 2 ^ count
+shifted-is count l = shl-exact {a = 1} 1 count 64 (omega arith) (omega arith) ∙ one-mul (2 ^ count)
+
+pub shift-some : (count : ℕ) → count < 64 → 1 ≤ 1 * 2 ^ count % 2 ^ 64
+shift-some count l = rw (shifted-is count l) (pow-pos count)
+
+module _ (t : List ℕ) where
+  pub held-none : length t < 16 → HeldRows t 0
+  held-none l = record { in-bytes = λ n e. absurd (clash e (bit-none n)); all = λ n h k. absurd (omega arith) }
+
+  held-ones : (count : ℕ) → ((n : ℕ) → n < count → Held t n) → ((n : ℕ) → n < 64 → Held t n → n < count) → HeldRows t (2 ^ count - 1)
+  held-ones count forth back = record {
+    in-bytes = λ n e. forth n (ltb-true n count (sym (bit-ones count n) ∙ e));
+    all = λ n l h. bit-ones count n ∙ lt-ltb n count (back n l h);
+  }
+
+  pub held-some : 16 ≤ length t → length t < 272 → HeldRows t (1 * 2 ^ ((length t - 16) / 4) % 2 ^ 64 - 1)
+  held-some l m = subst (λ (w : ℕ). HeldRows t (w - 1)) (sym (shifted-is count (omega arith))) (held-ones count (λ n h. fits n h) (λ n s h. under n h))
+    where
+      count : ℕ
+      count = (length t - 16) / 4
+
+      fits : (n : ℕ) → n < (length t - 16) / 4 → Held t n
+      fits n h = omega arith
+
+      under : (n : ℕ) → Held t n → n < (length t - 16) / 4
+      under n h = omega arith
+
+  pub held-all : 272 ≤ length t → HeldRows t (2 ^ 64 - 1)
+  held-all l = held-ones 64 (λ n h. omega arith) (λ n s h. s)
+
+  -- The bytes hold each row of a set where no row of it is left without those that they hold.
+  pub covers-is : (rows held : ℕ) → rows < 2 ^ 64 → held < 2 ^ 64 → HeldRows t held → Tells (Within t rows) (eqb (bitAnd rows ((2 ^ 64 - 1) - held)) 0)
+  covers-is rows held fits small h = tells-iff forth back (tells-eq (bitAnd rows ((2 ^ 64 - 1) - held)) 0)
+    where
+      out : (k : ℕ) → bit (bitAnd rows ((2 ^ 64 - 1) - held)) k ≡ bit rows k && (ltb k 64 && not (bit held k))
+      out k = bit-and rows ((2 ^ 64 - 1) - held) k ∙ ap (λ (b : Bool). bit rows k && b) (bit-not 64 held k small)
+
+      is-in : (a b c : Bool) → a && (b && not c) ≡ false → a ≡ true → b ≡ true → c ≡ true
+      is-in a b true e p q = refl
+      is-in a b false e p q = absurd (clash (ap₂ (λ (x y : Bool). x && (y && true)) p q) e)
+
+      forth : bitAnd rows ((2 ^ 64 - 1) - held) ≡ 0 → Within t rows
+      forth e n set = h .in-bytes n (is-in (bit rows n) (ltb n 64) (bit held n) (sym (out n) ∙ ap (λ (w : ℕ). bit w n) e ∙ bit-none n) set (lt-ltb n 64 (set-below 64 rows n fits set)))
+
+      back : Within t rows → bitAnd rows ((2 ^ 64 - 1) - held) ≡ 0
+      back w = no-bits 64 (bitAnd rows ((2 ^ 64 - 1) - held)) (and-lt 64 rows ((2 ^ 64 - 1) - held) fits (ones-sub-lt 64 held)) (λ k l. out k ∙ gone k l (bit rows k) refl)
+        where
+          gone : (k : ℕ) → k < 64 → (b : Bool) → bit rows k ≡ b → b && (ltb k 64 && not (bit held k)) ≡ false
+          gone k l true e = rw (lt-ltb k 64 l, h .all k l (w k e)) refl
+          gone k l false e = refl

@@ -1,12 +1,12 @@
 -- What a visit of a property row does to the pass, bit by bit, by the kind of the row. The numbers of rows count modulo 64, as in a word.
-use Prim.Native.Nat.{ℕ, _%_}
+use Prim.Native.Nat.{ℕ, _%_, _<_}
 use mathlib.Core.Path.{_≡_}
-use mathlib.Core.Bool.{Bool, true, not, _&&_, _||_}
+use mathlib.Core.Bool.{Bool, true, false, not, _&&_, _||_}
 use mathlib.Core.List.{List}
 use lib.Dec.{eqb, ltb, leb}
 use Rattle.psl.specs.Booleans.{bit}
 use Rattle.table.specs.Choice.{pick}
-use Rattle.engine.specs.Reads.{kindOf, aOf, bOf, cOf}
+use Rattle.engine.specs.Reads.{kindOf, aOf, bOf, cOf, Held, Within}
 use Rattle.engine.specs.declared.properties.Letter.{Letter}
 use Rattle.engine.specs.declared.properties.Pass.{Pass}
 
@@ -78,6 +78,16 @@ leftAt t n kind l s =
 unfoldable pub visitAt : List ℕ → ℕ → Letter → Stage → Stage
 visitAt t n l s = pick (ltb (kindOf t n) 40) (plainAt t n (kindOf t n) l s) (leftAt t n (kindOf t n) l s)
 
+-- Whether there is something to do at a row: an attempt begins, it was held, or its left side ends.
+abbrev pub called : ℕ → ℕ → ℕ → ℕ → Bool
+called begin was ends k = (bit begin k || bit was k) || bit ends k
+
 -- Whether a row is visited.
 abbrev pub visited : ℕ → ℕ → ℕ → ℕ → ℕ → Bool
-visited begin was ends leaves k = ((bit begin k || bit was k) || bit ends k) && not (bit leaves k)
+visited begin was ends leaves k = called begin was ends k && not (bit leaves k)
+
+-- The word has the rows that can be visited: those that the bytes hold, but for the leaves.
+pub record Visitable (t : List ℕ) (leaves word : ℕ) : Type 0 where
+  pub in-bytes : Within t word
+  pub no-leaf : (k : ℕ) → bit word k ≡ true → bit leaves k ≡ false
+  pub all : (k : ℕ) → k < 64 → Held t k → bit leaves k ≡ false → bit word k ≡ true

@@ -25,3 +25,8 @@ Held t n = 19 + 4 * n < length t
 
 abbrev pub Within : List ℕ → ℕ → Type 0
 Within t rows = (n : ℕ) → bit rows n ≡ true → Held t n
+
+-- The word has the rows below 64 that the bytes hold.
+pub record HeldRows (t : List ℕ) (word : ℕ) : Type 0 where
+  pub in-bytes : Within t word
+  pub all : (n : ℕ) → n < 64 → Held t n → bit word n ≡ true

@@ -1,13 +1,13 @@
 // The property rows, downwards: which begin now, which stay held, whether a never breaks.
 // A row is visited where an attempt begins, was held, or its left side ends.
 ghost use mathlib.Core.Path.{_≡_};
-ghost use mathlib.Core.Bool.{Bool};
-ghost use Prim.Native.Nat.{ℕ, _%_, _-_, _^_};
+ghost use mathlib.Core.Bool.{Bool, _&&_};
+ghost use Prim.Native.Nat.{ℕ};
 ghost use Rattle.psl.specs.Booleans.{bit};
 ghost use Rattle.psl.specs.Proof.Model.Nodes.{Node};
 ghost use Rattle.engine.specs.Reads.{Held};
 ghost use Rattle.engine.specs.Properties.{PropertyRows, Passed, Visits};
-ghost use Rattle.engine.specs.PropertyVisits.{stageOf, begunAt, keptAt, branchAt, guardAt, laterAt, lastsAt, lastingAt, plainAt, earlyAt, matchedAt, runningAt, leftAt, visitAt, visited};
+ghost use Rattle.engine.specs.PropertyVisits.{stageOf, begunAt, keptAt, branchAt, guardAt, laterAt, lastsAt, lastingAt, plainAt, earlyAt, matchedAt, runningAt, leftAt, visitAt, called, Visitable};
 use crate::rows;
 
 // The rows over a left side that ends on this letter: by an attempt under way, and by one that begins now.
@@ -179,18 +179,18 @@ fn row(table: &[u8], n: u8, l: Letter, p: Pass) -> Pass
     }
 }
 
-// The rows that are visited; `leaves` are the Booleans and the rows of weak sequences.
-fn visits(l: Letter, p: Pass, leaves: u64) -> u64
-    ensures { λ r. ⌜ ((k : ℕ) → bit r k ≡ visited (p .begin) (l .was) (l .hits .ends) leaves k) ⌝ }
+// The rows that can be visited; `leaves` are the Booleans and the rows of weak sequences.
+fn visitable(table: &[u8], leaves: u64) -> u64
+    ensures { λ r. ⌜ Visitable (now (table .entry)) leaves r ⌝ }
 {
-    (p.begin | l.was | l.hits.ends) & !leaves
+    rows::held(table) & !leaves
 }
 
-// The numbers below n.
-fn below(n: u8) -> u64
-    ensures { λ r. ⌜ r ≡ 2 ^ (n % 64) - 1 ⌝ }
+// The rows that are to be visited, of those that are still ahead.
+fn visits(l: Letter, p: Pass, ahead: u64) -> u64
+    ensures { λ r. ⌜ ((k : ℕ) → bit r k ≡ called (p .begin) (l .was) (l .hits .ends) k && bit ahead k) ⌝ }
 {
-    (1u64 << (n % 64)) - 1
+    (p.begin | l.was | l.hits.ends) & ahead
 }
 
 pub(crate) fn downward(table: &[u8], first: u64, leaves: u64, l: Letter) -> Pass
@@ -204,11 +204,13 @@ pub(crate) fn downward(table: &[u8], first: u64, leaves: u64, l: Letter) -> Pass
         held: 0,
         broken: false,
     };
-    let mut left = visits(l, p, leaves);
+    let mut ahead = visitable(table, leaves);
+    let mut left = visits(l, p, ahead);
     while left != 0 {
         let n = words::highest(left);
+        ahead = words::without_bit(ahead, n);
         p = row(table, n, l, p);
-        left = visits(l, p, leaves) & below(n);
+        left = visits(l, p, ahead);
     }
     p
 }

@@ -1,8 +1,7 @@
 // The fields of a row that the bytes hold, and whether they hold it.
 ghost use mathlib.Core.Path.{_≡_};
-ghost use Prim.Native.Nat.{ℕ, _+_, _*_, _<_};
 ghost use Rattle.psl.specs.Proof.Decide.Tells.{Tells};
-ghost use Rattle.engine.specs.Reads.{kindOf, aOf, bOf, cOf, Held, Within};
+ghost use Rattle.engine.specs.Reads.{kindOf, aOf, bOf, cOf, Held, Within, HeldRows};
 
 pub(crate) fn kind(table: &[u8], n: u8) -> u8
     requires { ⌜ Held (now table) n ⌝ }
@@ -32,17 +31,18 @@ pub(crate) fn c(table: &[u8], n: u8) -> u8
     table[19 + 4 * (n as usize)]
 }
 
-// How many rows so many bytes hold, 64 where more.
-fn rows_in(bytes: usize) -> u8
-    ensures { λ r. ⌜ ((n : ℕ) → n < 64 → (n < r → 19 + 4 * n < bytes) × (19 + 4 * n < bytes → n < r)) ⌝ }
+// The rows that the bytes hold, of those below 64.
+pub(crate) fn held(table: &[u8]) -> u64
+    ensures { λ r. ⌜ HeldRows (now (table .entry)) r ⌝ }
 {
+    let bytes = table.len();
     if bytes < 16 {
         return 0;
     }
     if bytes < 272 {
-        ((bytes - 16) / 4) as u8
+        (1u64 << ((bytes - 16) / 4)) - 1
     } else {
-        64
+        u64::MAX
     }
 }
 
@@ -50,5 +50,5 @@ fn rows_in(bytes: usize) -> u8
 pub(crate) fn covers(table: &[u8], rows: u64) -> bool
     ensures { λ r. ⌜ Tells (Within (now (table .entry)) rows) r ⌝ }
 {
-    !words::has_from(rows, rows_in(table.len()))
+    rows & !held(table) == 0
 }
