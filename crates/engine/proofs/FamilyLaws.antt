@@ -19,17 +19,13 @@ use Rattle.accepted.specs.Shapes.{same, same-eq}
 use Rattle.lanes.specs.SetSteps.{below, below-suc, below-zero, below-all}
 use Rattle.lanes.specs.Families.{word, word-bit, word-lt, no-six, only-six, image}
 use Rattle.engine.specs.Families.{leadsIn}
-use Rattle.engine.specs.FamilySteps.{Spread, Led, setOf, Leads, threes, imageOf, imageBy}
+use Rattle.engine.specs.FamilySteps.{Lacks, Spread, Led, setOf, Leads, threes, imageOf, imageBy}
 
 -- ---- the sets without a lane
 
 -- whether the mask lacks the set s just if s has the lane l
 abbrev pub lane-out : ℕ → ℕ → ℕ → Bool
 lane-out mask l s = same (not (bit mask s)) (bit s l)
-
--- the sets without the lanes of ends below n
-abbrev pub Lacks : ℕ → ℕ → ℕ → ℕ → Type 0
-Lacks family ends n r = (s : ℕ) → s < 64 → bit r s ≡ bit family s && not (any n (λ l. bit s l && bit ends l))
 
 pub lacks-none : (family ends : ℕ) → Lacks family ends 0 family
 unfolding any
@@ -61,6 +57,20 @@ lacks-more family ends mask n x y test h cut s l =
     kept (inl w) = ap (λ (r : ℕ). bit r s) (w .1) ∙ bit-and x mask s
         ∙ rw (eq-eqb (ends / 2 ^ n % 2) 1 (w .0)) (ap (λ (b : Bool). bit x s && b) (masked (bit mask s) (bit s n) in-mask))
     kept (inr w) = ap (λ (r : ℕ). bit r s) (w .1) ∙ rw (ne-eqb (ends / 2 ^ n % 2) 1 (w .0), and-false (bit s n)) (sym (and-true (bit x s)))
+
+-- where none of three lanes ends, all sets stay
+lacks-same : (family ends n x : ℕ) (mask : ℕ) → T (allFrom (lane-out mask n) 0 64) → (ends / 2 ^ n % 2 ≡ 1 → ⊥) → Lacks family ends n x → Lacks family ends (suc n) x
+lacks-same family ends n x mask test none h = lacks-more family ends mask n x x test h (inr (none, refl))
+
+pub lacks-low : (family ends : ℕ) → ends % 8 ≡ 0 → Lacks family ends 3 family
+lacks-low family ends e =
+    lacks-same family ends 2 family 1085102592571150095 tt (λ z. omega arith)
+    (lacks-same family ends 1 family 3689348814741910323 tt (λ z. omega arith) (lacks-same family ends 0 family 6148914691236517205 tt (λ z. omega arith) (lacks-none family ends)))
+
+pub lacks-high : (family ends x : ℕ) → ends / 8 % 8 ≡ 0 → Lacks family ends 3 x → Lacks family ends 6 x
+lacks-high family ends x e h =
+    lacks-same family ends 5 x 4294967295 tt (λ z. omega arith)
+    (lacks-same family ends 4 x 281470681808895 tt (λ z. omega arith) (lacks-same family ends 3 x 71777214294589695 tt (λ z. omega arith) h))
 
 -- ---- lanes spread over bytes
 

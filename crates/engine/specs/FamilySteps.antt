@@ -11,9 +11,13 @@ use Rattle.psl.specs.Proof.Decide.Tells.{any}
 use Rattle.lanes.specs.Families.{word, moved-to}
 use Rattle.engine.specs.Families.{endsIn, leadsIn}
 
+-- The sets of a family that hold none of the cells of ends below n.
+abbrev pub Lacks : ℕ → ℕ → ℕ → ℕ → Type 0
+Lacks family ends n r = (s : ℕ) → s < 64 → bit r s ≡ bit family s && not (any n (λ l. bit s l && bit ends l))
+
 -- The sets of a family that hold no cell of ends.
 pub record Without (family ends r : ℕ) : Type 0 where
-  pub each : (s : ℕ) → s < 64 → bit r s ≡ bit family s && not (any 6 (λ l. bit s l && bit ends l))
+  pub each : Lacks family ends 6 r
 
 -- Bit l of the lanes (seven of them) as the lowest bit of byte l, and nothing else.
 pub record Spread (lanes r : ℕ) : Type 0 where

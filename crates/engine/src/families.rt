@@ -1,14 +1,14 @@
 // The families of the weak sequences: bit s of a family says that some live attempt expects just the cells s.
 // A set that becomes empty stays as bit 0: its attempt is broken.
-ghost use Prim.Native.Nat.{_+_, _*_, _<_, _≤_};
+ghost use Prim.Native.Nat.{ℕ, _+_, _*_, _<_, _≤_};
 ghost use mathlib.Core.Path.{_≡_};
 ghost use lib.ListN.{getD, length};
 ghost use Rattle.engine.specs.Families.{leadsIn, Moved};
-ghost use Rattle.engine.specs.FamilySteps.{Without, Spread, Led, Leads, setOf, threes, imageOf, imageBy, Walked, Stepped, OneMoved};
+ghost use Rattle.engine.specs.FamilySteps.{Lacks, Without, Spread, Led, Leads, setOf, threes, imageOf, imageBy, Walked, Stepped, OneMoved};
 
-// The sets of a family that hold no cell of ends: each mask has the sets without one cell.
-fn without(family: u64, ends: u8) -> u64
-    ensures { λ r. ⌜ Without family ends r ⌝ }
+// The sets of a family that hold none of the cells 0 to 2 of ends: each mask has the sets without one cell.
+fn masked_low(family: u64, ends: u8) -> u64
+    ensures { λ r. ⌜ Lacks family ends 3 r ⌝ }
 {
     let mut left = family;
     if ends % 2 == 1 {
@@ -20,6 +20,14 @@ fn without(family: u64, ends: u8) -> u64
     if ends / 4 % 2 == 1 {
         left = left & 0x0f0f0f0f0f0f0f0f;
     }
+    left
+}
+
+// The same with the cells 3 to 5.
+fn masked_high(family: u64, ends: u8) -> u64
+    ensures { λ r. ⌜ ((whole : ℕ) → Lacks whole ends 3 family → Lacks whole ends 6 r) ⌝ }
+{
+    let mut left = family;
     if ends / 8 % 2 == 1 {
         left = left & 0x00ff00ff00ff00ff;
     }
@@ -30,6 +38,26 @@ fn without(family: u64, ends: u8) -> u64
         left = left & 0x00000000ffffffff;
     }
     left
+}
+
+fn without_low(family: u64, ends: u8) -> u64
+    ensures { λ r. ⌜ Lacks family ends 3 r ⌝ }
+{
+    if ends % 8 == 0 {
+        return family;
+    }
+    masked_low(family, ends)
+}
+
+// The sets of a family that hold no cell of ends, of which there are few.
+fn without(family: u64, ends: u8) -> u64
+    ensures { λ r. ⌜ Without family ends r ⌝ }
+{
+    let low = without_low(family, ends);
+    if ends / 8 % 8 == 0 {
+        return low;
+    }
+    masked_high(low, ends)
 }
 
 // Byte l of the result is bit l of the lanes, of which there are seven.
