@@ -3,16 +3,19 @@
 use crate::damage::{damage_bytes, damage_draft};
 use crate::damage_trace::{damage_trace, set_high_bits, too_long, wrong_property};
 use crate::draft::Draft;
+use crate::judge::PENDING;
 use crate::random::Random;
-use crate::table::{self, Table, MOST_NODES, MOST_PROPERTIES};
-use crate::trace::MOST_CYCLES;
+use crate::table::{self, Table, MOST_NODES, MOST_PROPERTIES, MOST_SIGNALS};
+use crate::trace::{samples_in, MOST_CYCLES};
 use crate::vectors::{refusal_number, Case, Vectors};
 use crate::{tables, traces};
 
 const REFUSALS: [usize; 14] = [1, 2, 3, 4, 5, 6, 7, 8, 9, 10, 11, 12, 13, 15];
 const TABLE_REFUSALS: usize = 11;
-/// Every refusal number comes at least this often in a file of LARGE refusals or more.
+/// Every refusal number comes at least this often in a file of LARGE refusals or more, and each
+/// of the largest sizes at least so often.
 const LEAST_OF_EACH: usize = 50;
+const EDGES: usize = 10;
 const LARGE: usize = 2_000;
 
 /// A valid table, with the most samples that are fast to read with it.
@@ -40,7 +43,7 @@ fn accepted(draft: &Draft) -> Table {
 }
 
 /// A case that is not refused.
-pub fn sound_case(random: &mut Random) -> (Case, Table) {
+fn sound_case(random: &mut Random) -> (Case, Table) {
     let (draft, most) = valid_table(random);
     let table = accepted(&draft);
     let property = random.below(draft.roots.len());
@@ -56,14 +59,31 @@ pub fn sound_case(random: &mut Random) -> (Case, Table) {
 }
 
 /// Thins out verdicts of the first cycle, and any verdict that is already common.
-pub fn is_wanted(random: &mut Random, vectors: &Vectors, answer: u64) -> bool {
+fn is_wanted(random: &mut Random, vectors: &Vectors, answer: u64) -> bool {
     let (code, cycle) = ((answer >> 32) as usize, answer as u32);
     let common = 20 * vectors.of_verdict[code - 1] > 9 * vectors.verdicts() + 200;
     !common && (cycle > 2 || random.chance(u32::max(cycle, 1) as usize, 6))
 }
 
+/// A case that is not refused and that is wanted; one of 150 that are decided goes on for up to
+/// as many cycles as a file holds.
+pub fn wanted_case(random: &mut Random, vectors: &Vectors) -> Option<(Case, Table)> {
+    let (mut case, table) = sound_case(random);
+    let answer = case.answer();
+    if !is_wanted(random, vectors, answer) {
+        return None;
+    }
+    if answer >> 32 != PENDING && random.chance(1, 150) {
+        let mut samples = samples_in(&case.trace);
+        let length = random.between(samples.len(), MOST_CYCLES);
+        traces::draw_out(random, table.signals, &mut samples, length);
+        case.trace = traces::bytes(table.signals, &samples);
+    }
+    Some((case, table))
+}
+
 fn add_verdicts(random: &mut Random, vectors: &mut Vectors, count: usize) {
-    if count >= 1_000 {
+    if count >= LARGE {
         for which in 0..6 {
             let (draft, samples) = traces::longest(random, which);
             let case = Case::judge(draft.bytes(), traces::bytes(draft.signals, &samples), 0);
@@ -71,11 +91,26 @@ fn add_verdicts(random: &mut Random, vectors: &mut Vectors, count: usize) {
         }
     }
     while vectors.verdicts() < count {
-        let (case, _) = sound_case(random);
-        let answer = case.answer();
-        if is_wanted(random, vectors, answer) {
-            vectors.record(&case, answer);
+        if let Some((case, _)) = wanted_case(random, vectors) {
+            vectors.record(&case, case.answer());
         }
+    }
+}
+
+/// The largest table, one byte more, and with it a trace of one cycle more than a file may hold.
+fn add_edges(random: &mut Random, vectors: &mut Vectors) {
+    let mut draft = tables::full(random);
+    while draft.roots.len() < MOST_PROPERTIES {
+        draft = tables::full(random);
+    }
+    let samples = traces::walk(random, &draft, 6);
+    let trace = traces::bytes(draft.signals, &samples);
+    let table = draft.bytes();
+    let larger = [&table[..], &[0]].concat();
+    let property = random.below(MOST_PROPERTIES) as u32;
+    for (table, trace) in [(&table, &trace), (&larger, &trace), (&table, &too_long(draft.signals))] {
+        let case = Case::judge(table.clone(), trace.clone(), property);
+        vectors.record(&case, case.answer());
     }
 }
 
@@ -103,7 +138,8 @@ pub fn damaged_case(random: &mut Random, numbers: &[usize]) -> Case {
     }
     let properties = draft.roots.len();
     let mut length = random.between(0, 8);
-    if numbers.contains(&13) && random.chance(1, 60) {
+    // With 32 signals nothing is refused by 13, and so many samples would be read.
+    if numbers.contains(&13) && draft.signals < MOST_SIGNALS && random.chance(1, 60) {
         length = MOST_CYCLES;
     }
     let mut samples = traces::walk(random, &draft, length);
@@ -186,6 +222,11 @@ fn add_refusals(random: &mut Random, vectors: &mut Vectors, count: usize, among:
 pub fn cases(random: &mut Random, vectors: &mut Vectors, verdicts: usize, refusals: usize) {
     add_verdicts(random, vectors, verdicts);
     add_refusals(random, vectors, refusals, &REFUSALS);
+    if refusals >= LARGE {
+        for _ in 0..EDGES {
+            add_edges(random, vectors);
+        }
+    }
 }
 
 fn record_check(vectors: &mut Vectors, table: &[u8]) {

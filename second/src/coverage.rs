@@ -8,6 +8,7 @@ use std::collections::{BTreeMap, BTreeSet};
 
 const LARGEST_TABLE: usize = 288;
 const LONG: usize = 24;
+const VERY_LONG: usize = 1000;
 
 #[derive(Default)]
 pub struct Coverage {
@@ -16,6 +17,7 @@ pub struct Coverage {
     shared: usize,
     no_cycle: usize,
     long: usize,
+    very_long: usize,
     longest: usize,
     too_long: usize,
     largest: usize,
@@ -56,6 +58,7 @@ impl Coverage {
         self.shared += uses.iter().any(|&count| count > 1) as usize;
         self.no_cycle += (cycles == 0) as usize;
         self.long += (cycles >= LONG) as usize;
+        self.very_long += (cycles >= VERY_LONG) as usize;
         self.longest += (cycles == MOST_CYCLES) as usize;
     }
 
@@ -68,6 +71,7 @@ impl Coverage {
             ("tables of 289 bytes", self.too_large),
             ("lists of no sample", self.no_cycle),
             ("lists of 24 samples or more", self.long),
+            ("lists of 1000 samples or more", self.very_long),
             ("traces of 16381 cycles", self.longest),
             ("traces of 16382 cycles", self.too_long),
         ] {

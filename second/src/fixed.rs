@@ -77,8 +77,9 @@ fn place((verdict, sample): (Verdict, u32)) -> Case {
 
 pub fn fixed(random: &mut Random, vectors: &mut Vectors) {
     for run in &RUNS {
-        let case = Case { kind: STEPS, ..judged_run(run) };
-        vectors.record_steps(&case);
+        let case = judged_run(run);
+        vectors.record(&case, case.answer());
+        vectors.record_steps(&Case { kind: STEPS, ..case });
     }
     for number in 1..=monitors::WRONG_PROPERTY {
         monitors::add_refused_opening(random, vectors, number);
@@ -86,6 +87,7 @@ pub fn fixed(random: &mut Random, vectors: &mut Vectors) {
     for at in PLACES {
         vectors.record_stray(&place(at));
     }
+    cases::cases(random, vectors, 100, 100);
     cases::checks(random, vectors, 200);
     monitors::steps(random, vectors, 60);
     monitors::strays(random, vectors, 60);

@@ -111,7 +111,7 @@ fn run(words: &[&str]) -> Result<(), String> {
         ["check", file] => print_checked(file),
         ["replay", file] => replay_file(file),
         ["selftest"] => selftest::run(),
-        ["fixed", out] => write_vectors("fixed", "1", out, &[]),
+        ["fixed", out] => write_vectors("fixed", "3", out, &[]),
         ["cases", seed, out, counts @ ..] if counts.len() <= 2 => {
             write_vectors("cases", seed, out, counts)
         }

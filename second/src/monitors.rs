@@ -1,7 +1,7 @@
 //! Decides which monitors are stepped: opened ones, fed every sample of a case, and any others,
 //! of which little is promised but that a step ends.
 
-use crate::cases::{damaged_case, is_wanted, sound_case, valid_table};
+use crate::cases::{damaged_case, valid_table, wanted_case};
 use crate::damage_trace::set_high_bits;
 use crate::random::Random;
 use crate::states::State;
@@ -10,6 +10,8 @@ use crate::trace::samples_in;
 use crate::vectors::{refusal_number, Case, Vectors, STATE, STEPS, STRAY};
 use crate::{tables, traces};
 
+/// Lists with more samples than this are decided early.
+const MOST_DRAWN: usize = 120;
 /// The refusals of opening are 1 up to this.
 pub const WRONG_PROPERTY: usize = 12;
 
@@ -25,19 +27,18 @@ pub fn add_refused_opening(random: &mut Random, vectors: &mut Vectors, number: u
     }
 }
 
-/// A sound case; in one of eight some samples set bits that the table does not declare.
+/// In one of eight some samples set bits that the table does not declare; not in a long list,
+/// since what decided it early may be refused then.
 fn add_opened(random: &mut Random, vectors: &mut Vectors) {
-    let (mut case, table) = sound_case(random);
-    if !is_wanted(random, vectors, case.answer()) {
-        return;
-    }
-    if random.chance(1, 8) {
+    if let Some((mut case, table)) = wanted_case(random, vectors) {
         let mut samples = samples_in(&case.trace);
-        set_high_bits(random, table.signals, &mut samples);
-        case.trace = traces::bytes(table.signals, &samples);
+        if samples.len() <= MOST_DRAWN && random.chance(1, 8) {
+            set_high_bits(random, table.signals, &mut samples);
+            case.trace = traces::bytes(table.signals, &samples);
+        }
+        case.kind = STEPS;
+        vectors.record_steps(&case);
     }
-    case.kind = STEPS;
-    vectors.record_steps(&case);
 }
 
 /// In one of sixteen opening is refused, for each reason in turn.

@@ -59,6 +59,13 @@ fn extend(random: &mut Random, draft: &Draft, samples: &mut Vec<u32>, length: us
     }
 }
 
+/// Goes on with any declared samples.
+pub fn draw_out(random: &mut Random, signals: usize, samples: &mut Vec<u32>, length: usize) {
+    while samples.len() < length {
+        samples.push(random.next() as u32 & all_signals(signals));
+    }
+}
+
 /// Draws each sample up to a few times so that the property stays pending for `guided` cycles
 /// where it can, and walks on to `length`.
 pub fn kept_pending(

@@ -161,8 +161,9 @@ impl Vectors {
 
     /// What the program `vectors` prints for this file, where no answer differs.
     fn due(&self) -> String {
-        let [_, checks, _, _, states, strays] = self.of_kind;
+        let [_, checks, judges, _, states, strays] = self.of_kind;
         let mut text = format!("due check: {} compared, 0 differ\n", checks);
+        text += &format!("due judge: {} compared, 0 differ\n", judges);
         text += &format!("due steps: {} compared, 0 differ\n", self.step_answers);
         text += &format!("due states: {} compared, 0 differ\n", states + strays);
         text + &format!("due states: {} stepped, all ended\n", self.stray_steps)

@@ -43,7 +43,7 @@ fn verdict_number(verdict: Verdict) -> u64
     }
 }
 
-fn answer_number(answer: Answer) -> u64
+pub fn answer_number(answer: Answer) -> u64
     ensures { λ r. ⌜ r ≡ answerNumber answer ⌝ }
 {
     match answer {

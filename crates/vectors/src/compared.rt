@@ -15,6 +15,7 @@ use monitor::Monitor;
 pub(crate) struct Compared {
     records: u64,
     checks: Tally,
+    judged: Tally,
     steps: Tally,
     states: Tally,
     stepped: u64,
@@ -24,6 +25,8 @@ pub(crate) struct Compared {
 
 impl Compared {
     const CHECK: u8 = 1;
+
+    const JUDGE: u8 = 2;
 
     const STEPS: u8 = 3;
 
@@ -35,6 +38,7 @@ impl Compared {
         Self {
             records: 0,
             checks: Tally::new(),
+            judged: Tally::new(),
             steps: Tally::new(),
             states: Tally::new(),
             stepped: 0,
@@ -62,6 +66,13 @@ impl Compared {
         self
     }
 
+    fn with_judged(mut self, h: Head, table: &[u8], trace: &[u8]) -> Self {
+        let t = self.judged;
+        let answer = host::judge(table, trace, h.property);
+        self.judged = t.answered(self.records, h.expected, answer);
+        self
+    }
+
     fn with_steps(mut self, h: Head, table: &[u8], trace: &[u8]) -> Self {
         let t = self.steps;
         let w = steps(t, self.records, h, table, trace);
@@ -86,6 +97,9 @@ impl Compared {
         if h.kind == Self::CHECK {
             return self.with_check(h, table);
         }
+        if h.kind == Self::JUDGE {
+            return self.with_judged(h, table, trace);
+        }
         if h.kind == Self::STEPS {
             return self.with_steps(h, table, trace);
         }
@@ -102,6 +116,8 @@ impl Compared {
     pub(crate) fn print(self) {
         let checks = self.checks;
         checks.print(b"check: ");
+        let judged = self.judged;
+        judged.print(b"judge: ");
         let steps = self.steps;
         steps.print(b"steps: ");
         let states = self.states;

@@ -1,14 +1,14 @@
 // Steps monitors that opening and stepping did not make: any words and any verdict.
 use crate::reading::u64_at;
-use crate::steps::answer_number;
-use crate::steps::verdict_number;
 use crate::tally::Tally;
 use crate::tally::more;
 use engine::cycle::Expected;
 use engine::plan::Plan;
+use host::answer_number;
 use libc::STDIN_FILENO;
 use little::byte_at;
 use little::u32_at;
+use monitor::Answer;
 use monitor::Monitor;
 use monitor::Stand;
 use monitor::Verdict;
@@ -89,7 +89,7 @@ fn same_plan(a: Plan, b: Plan) -> bool {
 fn same_stand(a: Stand, b: Stand) -> bool {
     let v = a.verdict;
     let w = b.verdict;
-    (verdict_number(v) == verdict_number(w))
+    (answer_number(Answer::Given(v)) == answer_number(Answer::Given(w)))
         & (a.expected.held == b.expected.held)
         & (a.expected.live.a == b.expected.live.a)
         & (a.expected.live.b == b.expected.live.b)

@@ -2,11 +2,11 @@
 use crate::reading::Head;
 use crate::reading::next_answer;
 use crate::tally::Tally;
+use host::answer_number;
 use monitor::Answer;
 use monitor::Monitor;
 use monitor::Turned;
 use monitor::Verdict;
-use table::Refusal;
 use trace::samples::cycles_of;
 use trace::samples::sample_at;
 
@@ -16,31 +16,11 @@ pub(crate) struct Watch {
     pub(crate) tally: Tally,
 }
 
-// An answer as one number, as a host in C has it.
-fn refusal_number(refusal: Refusal) -> u64 {
-    65536 * (refusal.number as u64) + (refusal.place as u64)
-}
-
-pub(crate) fn verdict_number(verdict: Verdict) -> u64 {
-    match verdict {
-        Verdict::Broken(n) => 4294967296 + (n as u64),
-        Verdict::Settled(n) => 2 * 4294967296 + (n as u64),
-        Verdict::Pending(n) => 3 * 4294967296 + (n as u64),
-    }
-}
-
 // Opened, it is pending after no cycle.
 fn opened_number(turned: Turned) -> u64 {
     match turned {
-        Turned::Away(refusal) => refusal_number(refusal),
-        Turned::In => verdict_number(Verdict::Pending(0)),
-    }
-}
-
-pub(crate) fn answer_number(answer: Answer) -> u64 {
-    match answer {
-        Answer::Refused(refusal) => refusal_number(refusal),
-        Answer::Given(verdict) => verdict_number(verdict),
+        Turned::Away(refusal) => answer_number(Answer::Refused(refusal)),
+        Turned::In => answer_number(Answer::Given(Verdict::Pending(0))),
     }
 }
 
