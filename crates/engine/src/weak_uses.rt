@@ -226,50 +226,6 @@ fn inner(
     );
 }
 
-// A row of a weak sequence.
-fn sequence_row(
-    table: &[u8],
-    n: u8,
-    kind: u8,
-    booleans: u64,
-    acts: &[u8; 64],
-    counts: &[u8; 64],
-    places: &mut [u8; 64],
-    intos: &mut [u8; 64],
-    gos: &mut [u8; 64],
-    leads: &mut [u8; 256],
-)
-    requires { ⌜ Held (now table) n × (kind ≡ kindOf (now table) n) × (length (now acts) ≡ 64) × (length (now counts) ≡ 64) × Sized (arrays (now places) (now intos) (now gos) (now leads)) ⌝ }
-    ensures { λ r. ⌜ Sized (arrays (now (places .exit)) (now (intos .exit)) (now (gos .exit)) (now (leads .exit))) × InnerDone (now (table .entry)) n booleans (now (acts .entry)) (now (counts .entry)) (arrays (now (places .entry)) (now (intos .entry)) (now (gos .entry)) (now (leads .entry))) (arrays (now (places .exit)) (now (intos .exit)) (now (gos .exit)) (now (leads .exit))) ⌝ }
-{
-    if kind == 16 {
-        then_inner(
-            table,
-            n,
-            booleans,
-            acts,
-            counts,
-            &mut *places,
-            &mut *intos,
-            &mut *gos,
-            &mut *leads,
-        );
-        return;
-    }
-    inner(
-        table,
-        n,
-        kind,
-        booleans,
-        acts,
-        counts,
-        &mut *places,
-        &mut *intos,
-        &mut *gos,
-        &mut *leads,
-    );
-}
-
 // A weak row; w weak sequences were met before.
 fn weak(
     table: &[u8],
@@ -323,8 +279,22 @@ fn down(
     ensures { λ r. ⌜ Sized (arrays (now (places .exit)) (now (intos .exit)) (now (gos .exit)) (now (leads .exit))) × (length (now (tops .exit)) ≡ 32) × RowDone (now (table .entry)) n w booleans begin (now (acts .entry)) (now (counts .entry)) (arrays (now (places .entry)) (now (intos .entry)) (now (gos .entry)) (now (leads .entry))) (now (tops .entry)) r (arrays (now (places .exit)) (now (intos .exit)) (now (gos .exit)) (now (leads .exit))) (now (tops .exit)) ⌝ }
 {
     let kind = rows::kind(table, n);
+    if kind == 16 {
+        then_inner(
+            table,
+            n,
+            booleans,
+            acts,
+            counts,
+            &mut *places,
+            &mut *intos,
+            &mut *gos,
+            &mut *leads,
+        );
+        return w;
+    }
     if kind < 32 {
-        sequence_row(
+        inner(
             table,
             n,
             kind,
