@@ -1,5 +1,4 @@
-// The uses of the rows of weak sequences: lanes 0 to 5 are their cells, lane 6 an attempt that begins now. Down the rows, which lanes enter each part,
-// and so which lanes lead to each cell.
+// The uses of the rows of weak sequences, down the rows: which lanes enter each part, and so lead to each cell. Lanes 0 to 5 are cells, 6 an attempt that begins.
 ghost use mathlib.Core.Path.{_≡_};
 ghost use Prim.Native.Nat.{_+_, _%_, _≤_};
 ghost use lib.ListN.{length};
@@ -12,8 +11,7 @@ use crate::weak_parts::only_if;
 use crate::weak_parts::part_at;
 use crate::weak_parts::shifted;
 
-// How a part is used: the place of its first cell (8 times the number of its weak sequence, and the lane); the lanes that
-// enter it now, and those that enter it next.
+// How a part is used: the place of its first cell (8 times the number of its weak sequence, and the lane); the lanes that enter it now, and next.
 pub struct Use {
     pub place: u8,
     pub into: u8,
