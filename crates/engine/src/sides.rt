@@ -296,11 +296,11 @@ fn then_down(
     requires { ⌜ Held (now table) n × (length (now uses) ≡ 64) ⌝ }
     ensures { λ r. ⌜ PairDowned (now (table .entry)) 16 n a used booleans (live .a) (live .b) (now (uses .entry)) (r .a) (r .b) (now (uses .exit)) ⌝ }
 {
-    if a == 0 {
-        return pair_down(table, n, used, 0, booleans, live, &mut *uses);
-    }
     if a & 6 == 2 {
         return pair_down(table, n, used, 2, booleans, live, &mut *uses);
+    }
+    if a == 0 {
+        return pair_down(table, n, used, 0, booleans, live, &mut *uses);
     }
     let on = then_right(a, used);
     pair_down(table, n, used, on, booleans, live, &mut *uses)

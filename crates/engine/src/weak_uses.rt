@@ -1,5 +1,4 @@
-// The uses of the rows of weak sequences: lanes 0 to 5 are their cells, lane 6 an attempt that begins now. Down the rows, which lanes enter each part,
-// and so which lanes lead to each cell.
+// The uses of the rows of weak sequences, down the rows: which lanes enter each part, and so lead to each cell. Lanes 0 to 5 are cells, 6 an attempt that begins.
 ghost use mathlib.Core.Path.{_≡_};
 ghost use Prim.Native.Nat.{_+_, _%_, _≤_};
 ghost use lib.ListN.{length};
@@ -12,8 +11,7 @@ use crate::weak_parts::only_if;
 use crate::weak_parts::part_at;
 use crate::weak_parts::shifted;
 
-// How a part is used: the place of its first cell (8 times the number of its weak sequence, and the lane); the lanes that
-// enter it now, and those that enter it next.
+// How a part is used: the place of its first cell (8 times the number of its weak sequence, and the lane); the lanes that enter it now, and next.
 pub struct Use {
     pub place: u8,
     pub into: u8,
@@ -260,6 +258,56 @@ fn weak(
     (w % 32) + 1
 }
 
+// A row n of this kind, which is no a ; b, downwards; w weak sequences were met before.
+fn other_down(
+    table: &[u8],
+    n: u8,
+    kind: u8,
+    w: u8,
+    booleans: u64,
+    begin: u64,
+    acts: &[u8; 64],
+    counts: &[u8; 64],
+    places: &mut [u8; 64],
+    intos: &mut [u8; 64],
+    gos: &mut [u8; 64],
+    leads: &mut [u8; 256],
+    tops: &mut [u8; 32],
+) -> u8
+    requires { ⌜ Held (now table) n × (kind ≡ kindOf (now table) n) × (kind ≡ 16 → ⊥) × (length (now acts) ≡ 64) × (length (now counts) ≡ 64) × Sized (arrays (now places) (now intos) (now gos) (now leads)) × (length (now tops) ≡ 32) ⌝ }
+    ensures { λ r. ⌜ Sized (arrays (now (places .exit)) (now (intos .exit)) (now (gos .exit)) (now (leads .exit))) × (length (now (tops .exit)) ≡ 32) × RowDone (now (table .entry)) n w booleans begin (now (acts .entry)) (now (counts .entry)) (arrays (now (places .entry)) (now (intos .entry)) (now (gos .entry)) (now (leads .entry))) (now (tops .entry)) r (arrays (now (places .exit)) (now (intos .exit)) (now (gos .exit)) (now (leads .exit))) (now (tops .exit)) ⌝ }
+{
+    if kind < 32 {
+        inner(
+            table,
+            n,
+            kind,
+            booleans,
+            acts,
+            counts,
+            &mut *places,
+            &mut *intos,
+            &mut *gos,
+            &mut *leads,
+        );
+        return w;
+    }
+    weak(
+        table,
+        n,
+        w,
+        booleans,
+        begin,
+        acts,
+        counts,
+        &mut *places,
+        &mut *intos,
+        &mut *gos,
+        &mut *leads,
+        &mut *tops,
+    )
+}
+
 // Row n downwards; w weak sequences were met before.
 fn down(
     table: &[u8],
@@ -293,24 +341,10 @@ fn down(
         );
         return w;
     }
-    if kind < 32 {
-        inner(
-            table,
-            n,
-            kind,
-            booleans,
-            acts,
-            counts,
-            &mut *places,
-            &mut *intos,
-            &mut *gos,
-            &mut *leads,
-        );
-        return w;
-    }
-    weak(
+    other_down(
         table,
         n,
+        kind,
         w,
         booleans,
         begin,

@@ -12,7 +12,7 @@ returns : tie.Need-returns
 returns c = (
   _,
   record {
-    then-is = λ k x w o e f. then-use-none x w o (sym e ∙ c .before .before .if1 .taken);
+    then-is = λ k x w o e f. then-use-ends x w o (rw (← e) (c .before .before .if1 .taken));
     fuse-is = λ k x w o e f. absurd (omega arith);
     alt-is = λ k x w o e f. absurd (omega arith);
   },
@@ -26,7 +26,7 @@ returns-2 : tie.Need-returns-2
 returns-2 c = (
   _,
   record {
-    then-is = λ k x w o e f. then-use-ends x w o (rw (← e) (c .before .before .if2 .taken));
+    then-is = λ k x w o e f. then-use-none x w o (sym e ∙ c .before .before .if2 .taken);
     fuse-is = λ k x w o e f. absurd (omega arith);
     alt-is = λ k x w o e f. absurd (omega arith);
   },
