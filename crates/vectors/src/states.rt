@@ -2,6 +2,7 @@
 use crate::reading::u64_at;
 use crate::tally::Tally;
 use crate::tally::more;
+use engine::Live;
 use engine::cycle::Expected;
 use engine::plan::Plan;
 use host::answer_number;
@@ -38,13 +39,14 @@ fn verdict_of(state: &[u8]) -> Verdict {
 }
 
 fn expected_of(state: &[u8]) -> Expected {
-    let mut expected = engine::cycle::nothing();
-    let a = u64_at(state, 32);
-    let b = u64_at(state, 40);
-    expected.held = u64_at(state, 24);
-    expected.live.a = a;
-    expected.live.b = b;
-    expected
+    let live = Live {
+        a: u64_at(state, 32),
+        b: u64_at(state, 40),
+    };
+    Expected {
+        held: u64_at(state, 24),
+        live,
+    }
 }
 
 fn stand_of(state: &[u8]) -> Stand {
