@@ -21,7 +21,7 @@ use Rattle.monitor.specs.Goes.{Goes}
 use Rattle.monitor.specs.Opening.{opened}
 use Rattle.monitor.specs.declared.Turned.{Turned}
 use Rattle.monitor.specs.declared.Turned.the-variants.{Away, In}
-use Rattle.monitor.specs.Opens.{Fresh, noPlan, Ready, OpenIs}
+use Rattle.monitor.specs.Opens.{Fresh, noPlan, Ready, refusalOf, OpenIs}
 
 module _ (t : List ℕ) (m : Monitor) (plan : Plan) (r : ℕ) (fresh : Fresh plan m) (root-is : plan .root ≡ r)
     (planned : (counts : Counts) → Subset t counts → r < counts .nodes → ¬ (classOf (kindAt t r) ≡ Sequence) → Planned t r (plan .booleans) (plan .sides) (plan .weaks))
@@ -55,8 +55,8 @@ root-byte t c z nodes property r low e q =
 
 -- The cases of opening, by the answer of the check.
 module _ (t : List ℕ) (property : ℕ) (turned : Turned) (m : Monitor) {checked : Checked} (is-check : checked ≡ checkOf t) where
-  pub refused-open : (r : Refusal) → checked ≡ Refused r → (turned ≡ Away r) × Fresh noPlan m → OpenIs t property (checkOf t) turned m
-  refused-open r q h = subst (λ (k : Checked). OpenIs t property k turned m) (sym q ∙ is-check) h
+  pub refused-open : (r said : Refusal) → checked ≡ Refused r → said ≡ refusalOf checked → (turned ≡ Away said) × Fresh noPlan m → OpenIs t property (checkOf t) turned m
+  refused-open r said q e h = subst (λ (k : Checked). OpenIs t property k turned m) (sym q ∙ is-check) (h .0 ∙ ap Away (e ∙ ap refusalOf q), h .1)
 
   pub away-open : (c : Counts) → checked ≡ Accepted c → c .properties ≤ property → (turned ≡ Away (record { number = 12; place = 0 })) × Fresh noPlan m → OpenIs t property (checkOf t) turned m
   away-open c q l h = subst (λ (k : Checked). OpenIs t property k turned m) (sym q ∙ is-check) (λ full. h, λ less. absurd (omega arith))

@@ -5,6 +5,7 @@ use mathlib.Core.List.{List, []}
 use lib.ListN.{replicate}
 use Rattle.table.specs.Roots.{rootAt}
 use Rattle.table.specs.declared.Counts.{Counts}
+use Rattle.table.specs.declared.Refusal.{Refusal}
 use Rattle.table.specs.declared.Checked.{Checked}
 use Rattle.table.specs.declared.Checked.the-variants.{Accepted, Refused}
 use Rattle.engine.specs.declared.plan.Plan.{Plan}
@@ -29,6 +30,11 @@ pub record Fresh (plan : Plan) (m : Monitor) : Type 0 where
 pub record Ready (t : List ℕ) (counts : Counts) (property : ℕ) (m : Monitor) : Type 0 where
   pub root-is : m .plan .root ≡ rootAt t (counts .nodes) property
   pub goes : Goes t (m .plan .root) (m .plan .booleans) (m .plan .sides) (m .plan .weaks) [] (m .stand .expected .held) (m .stand .expected .live .a) (m .stand .expected .live .b) (m .families)
+
+-- The refusal of a check; of an accepted table number 0.
+abbrev pub refusalOf : Checked → Refusal
+refusalOf (Refused r) = r
+refusalOf (Accepted c) = record { number = 0; place = 0 }
 
 abbrev pub OpenIs : List ℕ → ℕ → Checked → Turned → Monitor → Type 0
 OpenIs t property (Refused r) turned m = (turned ≡ Away r) × Fresh noPlan m

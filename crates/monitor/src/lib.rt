@@ -10,7 +10,7 @@ ghost use Rattle.table.specs.Check.{checkOf};
 ghost use Rattle.table.specs.Subset.{Subset};
 ghost use Rattle.table.specs.declared.Counts.{Counts};
 ghost use Rattle.monitor.specs.declared.Turned.the-variants.{Away, In};
-ghost use Rattle.monitor.specs.Opens.{Fresh, noPlan, Ready, OpenIs};
+ghost use Rattle.monitor.specs.Opens.{Fresh, noPlan, Ready, refusalOf, OpenIs};
 ghost use Rattle.monitor.specs.Follows.{verdictOf, refusal, goingOf, monitorOf, Turns, Advances, DeclaredIs, StepIs};
 ghost use Rattle.monitor.specs.Goes.{Goes};
 
@@ -116,23 +116,34 @@ fn opening(table: &[u8], nodes: u8, property: u8) -> Opened
     }
 }
 
+// Why a table was refused; number 0 where it was not.
+fn refusal_of(checked: Checked) -> Refusal
+    ensures { λ r. ⌜ r ≡ refusalOf checked ⌝ }
+{
+    let Checked::Refused(refusal) = checked else {
+        return Refusal {
+            number: 0,
+            place: 0,
+        };
+    };
+    refusal
+}
+
 // Refusals 1 to 11, then 12; else a monitor that has read nothing.
 pub fn open(table: &[u8], property: u32) -> Opened
     ensures { λ r. ⌜ OpenIs (now (table .entry)) property (checkOf (now (table .entry))) (r .turned) (r .monitor) ⌝ }
 {
     let checked = table::check(table);
-    match checked {
-        Checked::Refused(refusal) => not_opened(refusal),
-        Checked::Accepted(counts) => {
-            if (counts.properties as u32) <= property {
-                return not_opened(Refusal {
-                    number: 12,
-                    place: 0,
-                });
-            }
-            opening(table, counts.nodes, (property % 256) as u8)
-        }
+    let Checked::Accepted(counts) = checked else {
+        return not_opened(refusal_of(checked));
+    };
+    if (counts.properties as u32) <= property {
+        return not_opened(Refusal {
+            number: 12,
+            place: 0,
+        });
     }
+    opening(table, counts.nodes, (property % 256) as u8)
 }
 
 // The verdict at cycle n.
