@@ -7,7 +7,7 @@ use mathlib.Core.Logic.{inl, inr, ⊎-elim}
 use native.Mathlib.Omega.{arith}
 use lib.Dec.{T, eqb}
 use lib.Bits.{bitAnd, bitOr, and-lt}
-use lib.ListN.{getD}
+use lib.ListN.{length, getD}
 use Rattle.psl.specs.Booleans.{bit}
 use Rattle.psl.specs.Proof.Decide.Tells.{Tells, tells-and, tells-or, tells-eq, tells-iff, tells-value, tells-not-value, tells-true, true-tells}
 use Rattle.words.specs.Bits.{bit-none, bit-and, bit-or}
@@ -116,3 +116,8 @@ module _ {t : List ℕ} {root booleans sides weaks first held live-a live-b : �
       keeping-reached : (n : ℕ) → Keeping (nodeOf s n) → s .plan .reached n ≡ true
       keeping-reached n k = proper-is t (s .counts) (s .subset) root booleans sides weaks (s .plan) (s .root-low) n
           (keeping-proper t (s .counts) (s .subset) root booleans sides weaks (s .plan) (s .root-low) n k) .0
+
+-- so nothing stands where the rows are not all there
+pub no-rows : {t : List ℕ} {root booleans sides weaks first held live-a live-b : ℕ} {families : List ℕ} {r : Bool}
+    → Tells (Within t (bitOr (bitOr (bitOr (bitOr booleans sides) weaks) first) held) × (length families ≡ 32)) r → r ≡ false → ¬ Standing t root booleans sides weaks first held live-a live-b families
+no-rows tells e s = subst T (sym (true-tells tells (standing-there s, s .represented .size)) ∙ e) tt

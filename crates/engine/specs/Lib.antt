@@ -32,4 +32,5 @@ pub mod CycleBegins
 pub mod CycleRight
 pub mod CycleFlags
 pub mod Cycled
+pub mod Goes
 pub mod Unique

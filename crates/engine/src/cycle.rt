@@ -10,6 +10,7 @@ ghost use Rattle.engine.specs.Truths.{OnlyIn};
 ghost use Rattle.engine.specs.Sides.{SideRows, SideUsers, LiveWords, LiveAtCells, LeftsFound, SidesUp, OverSides, SidesEnter, SidesDown};
 ghost use Rattle.engine.specs.CycleWeaks.{WeaksLeft, WeaksTold};
 ghost use Rattle.engine.specs.Cycled.{Covered, Standing, Cycled};
+ghost use Rattle.engine.specs.Goes.{RightNext};
 ghost use Rattle.engine.specs.CycleFlags.{BooleanFails, NoWord};
 ghost use Rattle.psl.specs.Proof.Decide.Tells.{Tells};
 use crate::families;
@@ -198,6 +199,7 @@ pub fn cycle(
 ) -> Outcome
     ensures { λ r. ⌜ ((s : Standing (now (table .entry)) (plan .root) (plan .booleans) (plan .sides) (plan .weaks) first (was .held) (was .live .a) (was .live .b) (now (families .entry)))
         → Cycled s sample (r .expected .held) (r .expected .live .a) (r .expected .live .b) (now (families .exit)) (r .broken) (r .quiet)) ⌝ }
+    ensures { λ r. ⌜ RightNext (now (table .entry)) (plan .root) (plan .booleans) (plan .sides) (plan .weaks) first (was .held) (was .live .a) (was .live .b) (now (families .entry)) sample (r .broken) (r .quiet) ⌝ }
 {
     let rows = plan.booleans | plan.sides | plan.weaks | first | was.held;
     if is_there(table, rows, &*families) {

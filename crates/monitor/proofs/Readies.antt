@@ -17,7 +17,7 @@ use Rattle.table.specs.declared.kinds.Class.the-variants.{Sequence}
 use Rattle.engine.specs.declared.plan.Plan.{Plan}
 use Rattle.engine.specs.Planned.{Planned}
 use Rattle.monitor.specs.declared.Monitor.{Monitor}
-use Rattle.monitor.specs.Goes.{Goes}
+use Rattle.engine.specs.Goes.{Goes}
 use Rattle.monitor.specs.Opening.{opened}
 use Rattle.monitor.specs.declared.Turned.{Turned}
 use Rattle.monitor.specs.declared.Turned.the-variants.{Away, In}

@@ -15,7 +15,7 @@ use Rattle.words.specs.Sets.{WithBit}
 use Rattle.engine.specs.Cycled.{Standing, Cycled}
 use Rattle.monitor.specs.declared.Verdict.{Verdict}
 use Rattle.monitor.specs.Follows.{verdictOf, Turns}
-use Rattle.monitor.specs.Goes.{Goes, standing, next-right}
+use Rattle.engine.specs.Goes.{Goes, standing, next-right}
 
 -- the root, at the first cycle alone
 first-word : {n m root first : ℕ} → n ≡ m → root < 64 → WithBit 0 root (eqb n 0) first → (k : ℕ) → bit first k ≡ eqb k root && eqb m 0

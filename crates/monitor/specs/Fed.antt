@@ -25,7 +25,7 @@ use Rattle.monitor.specs.declared.Turned.the-variants.{In}
 use Rattle.monitor.specs.declared.Verdict.{Verdict}
 use Rattle.monitor.specs.declared.Verdict.the-variants.{Broken, Settled, Pending}
 use Rattle.monitor.specs.declared.Going.the-variants.{Over}
-use Rattle.monitor.specs.Goes.{Goes, goes-on}
+use Rattle.engine.specs.Goes.{Goes, goes-on}
 use Rattle.monitor.specs.Opens.{OpenIs}
 use Rattle.monitor.specs.Follows.{verdictOf, goingOf, Stood, stood-broken, stood-settled, stood-pending, signalsOf, refusal, Advances, DeclaredStep, StepIs}
 

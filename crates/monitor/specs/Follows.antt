@@ -18,7 +18,7 @@ use Rattle.monitor.specs.declared.Going.the-variants.{Over, After}
 use Rattle.little.specs.Bytes.{byteAt}
 use Rattle.words.specs.Sets.{HasFrom}
 use Rattle.engine.specs.CycleRight.{Represented}
-use Rattle.monitor.specs.Goes.{Goes, keptAfter}
+use Rattle.engine.specs.Goes.{Goes, keptAfter}
 
 -- The verdict, as document 01 has it.
 abbrev pub verdictOf : Verdict → Psl.Verdict

@@ -2,7 +2,6 @@
 -- (Unique).
 pub mod Fed
 pub mod Follows
-pub mod Goes
 pub mod Opening
 pub mod Opens
 pub mod Promises

@@ -22,7 +22,7 @@ use Rattle.engine.specs.Weaks.{weakNumber}
 use Rattle.engine.specs.PlanView as W
 use Rattle.engine.specs.PlanState.{nothing-in-place}
 use Rattle.engine.specs.CycleRight.{Represented}
-use Rattle.monitor.specs.Goes.{Goes}
+use Rattle.engine.specs.Goes.{Goes}
 
 sequence-class : (k : ℕ) → 15 < k → k < 21 → classOf k ≡ Sequence
 unfolding classOf pick

@@ -13,7 +13,7 @@ use Rattle.monitor.specs.declared.Monitor.{Monitor}
 use Rattle.monitor.specs.declared.Turned.{Turned}
 use Rattle.monitor.specs.declared.Turned.the-variants.{Away, In}
 use Rattle.monitor.specs.declared.Verdict.the-variants.{Pending}
-use Rattle.monitor.specs.Goes.{Goes}
+use Rattle.engine.specs.Goes.{Goes}
 
 abbrev pub noPlan : Plan
 noPlan = record { booleans = 0; sides = 0; weaks = 0; root = 0 }

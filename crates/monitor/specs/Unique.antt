@@ -25,7 +25,7 @@ use Rattle.monitor.specs.declared.Turned.{Turned}
 use Rattle.monitor.specs.declared.Verdict.{Verdict}
 use Rattle.monitor.specs.declared.Verdict.the-variants.{Broken, Settled, Pending}
 use Rattle.monitor.specs.Opens.{Fresh, Ready, OpenIs}
-use Rattle.monitor.specs.Goes.{Goes}
+use Rattle.engine.specs.Goes.{Goes}
 use Rattle.monitor.specs.Follows.{verdictOf, stood-pending, Advances, DeclaredStep, DeclaredIs, StepIs}
 use Rattle.monitor.specs.Fed.{StoodIn, Fed, fed-declared, fed-undeclared}
 

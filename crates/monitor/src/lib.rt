@@ -12,7 +12,7 @@ ghost use Rattle.table.specs.declared.Counts.{Counts};
 ghost use Rattle.monitor.specs.declared.Turned.the-variants.{Away, In};
 ghost use Rattle.monitor.specs.Opens.{Fresh, noPlan, Ready, refusalOf, OpenIs};
 ghost use Rattle.monitor.specs.Follows.{verdictOf, refusal, goingOf, monitorOf, Turns, Advances, DeclaredIs, StepIs};
-ghost use Rattle.monitor.specs.Goes.{Goes};
+ghost use Rattle.engine.specs.Goes.{Goes};
 
 pub mod entry;
 

@@ -16,7 +16,7 @@ verdict-at-requires : tie.Need-verdict-at-requires
 verdict-at-requires c κs = search needs
 
 returns : tie.Need-returns
-returns c = λ v read right goes. turned goes _ _ _ _ _ _ _ _ _ (c .verdict-at .result) read (c .before .before .before .before .with-bit .ensures) (c .before .before .cycle .ensures) (c .verdict-at .ensures) right
+returns c = λ v read right goes. turned goes _ _ _ _ _ _ _ _ _ (c .verdict-at .result) read (c .before .before .before .before .with-bit .ensures) (c .before .before .cycle .ensures .0) (c .verdict-at .ensures) right
 
 pub turn-spec : {M : Type 1} → statement M
 turn-spec =

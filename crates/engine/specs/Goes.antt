@@ -1,4 +1,4 @@
--- A property that goes on: its words are what the cycles so far have kept. Nothing here has to be believed.
+-- A property that goes on: its words are what the cycles so far have kept; and what the definitions say of one cycle more. Nothing here has to be believed.
 use Prim.Native.Nat.{ℕ, suc, _<_}
 use mathlib.Core.Path.{_≡_, sym, subst}
 use mathlib.Core.Bool.{Bool, _&&_}
@@ -81,3 +81,19 @@ module _ {t : List ℕ} {root booleans sides weaks : ℕ} {v : List ℕ} {held l
       where
         tree : propAt (W.node t (g .counts) (g .subset) root booleans sides weaks (g .plan) (g .root-low)) root ≡ propertyAt t root
         tree = root-property t (g .counts) (g .subset) root booleans sides weaks (g .plan) (g .root-low) (g .root-proper)
+
+-- WHAT THE DEFINITIONS SAY OF A CYCLE: of a property that goes on after the samples v, pending, the verdict by its two flags is the right one for v and this sample.
+abbrev pub RightNext : List ℕ → ℕ → ℕ → ℕ → ℕ → ℕ → ℕ → ℕ → ℕ → List ℕ → ℕ → Bool → Bool → Type 0
+RightNext t root booleans sides weaks first held live-a live-b families x broke quiet = (v : List ℕ) → Goes t root booleans sides weaks v held live-a live-b families
+    → ((n : ℕ) → bit first n ≡ eqb n root && eqb (length v) 0) → Right (propertyAt t root) v (pending (length v))
+    → Right (propertyAt t root) (v ++ x ∷ []) (judged broke quiet (suc (length v)))
+
+pub right-by : {t : List ℕ} {root booleans sides weaks first held live-a live-b : ℕ} {families : List ℕ} {x held′ live-a′ live-b′ : ℕ} {families′ : List ℕ} {broke quiet : Bool}
+    → ((s : Standing t root booleans sides weaks first held live-a live-b families) → Cycled s x held′ live-a′ live-b′ families′ broke quiet)
+    → RightNext t root booleans sides weaks first held live-a live-b families x broke quiet
+right-by {first = first} c v g f r = next-right g first f (c (standing g first f)) r
+
+-- where nothing stands so, nothing is said
+pub unsaid : {t : List ℕ} {root booleans sides weaks first held live-a live-b : ℕ} {families : List ℕ} (x : ℕ) (broke quiet : Bool)
+    → ¬ Standing t root booleans sides weaks first held live-a live-b families → RightNext t root booleans sides weaks first held live-a live-b families x broke quiet
+unsaid {first = first} x broke quiet none v g f r = absurd (none (standing g first f))
