@@ -3,7 +3,7 @@
 
 typedef struct { uint64_t booleans, sides, weaks; uint8_t root; } Plan;
 typedef struct { uint64_t held, a, b; } Expected;
-typedef struct { uint64_t ends, early; } Hits;
+typedef struct { uint64_t ends, early, empty; } Hits;
 typedef struct { uint64_t begin, held; int broken; } Pass;
 
 static int bit(uint64_t word, uint8_t k) { return word >> (k & 63) & 1; }
@@ -91,7 +91,7 @@ static uint8_t side_part(uint8_t kind, uint8_t a, uint8_t b) {
 
 static Hits sides_up(const uint8_t *table, Plan plan, uint64_t truth, Expected was, uint8_t lefts[64]) {
     uint8_t parts[64];
-    Hits hits = {0, 0};
+    Hits hits = {0, 0, 0};
     for (uint64_t left = plan.booleans; left; left &= left - 1) parts[lowest(left)] = bit(truth, lowest(left));
     for (uint64_t left = plan.sides; left; left &= left - 1) {
         int n = lowest(left);
@@ -102,6 +102,7 @@ static Hits sides_up(const uint8_t *table, Plan plan, uint64_t truth, Expected w
         } else if (kind >= 32) {
             hits.ends = with(hits.ends, n, (a & 2) != 0);
             hits.early = with(hits.early, n, a & 1);
+            hits.empty = with(hits.empty, n, (a & 4) != 0);
         } else {
             parts[n] = side_part(kind, a, kind <= 18 ? seen(B_(n), bit(was.b, n), truth, parts) : 0);
         }
@@ -127,7 +128,7 @@ static void property_row(const uint8_t *table, int n, uint64_t was, uint64_t tru
     case 40: p->begin = with(p->begin, B_(n), ends_left(table, n, truth, hits, bit(p->begin, n))); break;
     case 41:
         on = ends_left(table, n, truth, hits, bit(p->begin, n));
-        p->begin = with(p->begin, B_(n), bit(was, n));
+        p->begin = with(p->begin, B_(n), bit(was | (p->begin & hits.empty), n));
         p->held = with(p->held, n, on);
         break;
     default:
@@ -305,7 +306,7 @@ static uint64_t weaks_moved(const uint8_t *table, Plan plan, uint64_t begin, uin
 /* One cycle; `first` is the root at the first, else nothing. Answers whether it breaks (1), whether nothing is expected any more (2). */
 static int cycle(const uint8_t *table, Plan plan, Expected *e, uint64_t first, uint32_t sample, uint64_t families[32]) {
     uint8_t lefts[64];
-    Hits hits = {0, 0};
+    Hits hits = {0, 0, 0};
     uint64_t truth = truths(table, plan.booleans, sample);
     if (plan.sides) hits = sides_up(table, plan, truth, *e, lefts);
     Pass p = properties_down(table, first, plan.booleans | plan.weaks, e->held, truth, hits);

@@ -34,11 +34,12 @@ no-bit n e h = absurd (subst T (sym h ∙ ap (λ (v : ℕ). bit v n) e ∙ bit-n
 pub none-over : (t : List ℕ) (sides : ℕ) → OverSides t sides 0
 none-over t sides n h = no-bit n refl h
 
-pub none-up : (t : List ℕ) (row : ℕ → Row) (live : ℕ → Bool → Bool) (sides x : ℕ) (lefts : List ℕ) → sides ≡ 0 → SidesUp t row live sides x lefts 0 0
+pub none-up : (t : List ℕ) (row : ℕ → Row) (live : ℕ → Bool → Bool) (sides x : ℕ) (lefts : List ℕ) → sides ≡ 0 → SidesUp t row live sides x lefts 0 0 0
 none-up t row live sides x lefts e = record {
   lefts-are = λ n h. no-bit n e h;
   ends-are = λ n h. no-bit n e h;
   early-are = λ n h. no-bit n e h;
+  empty-are = λ n h. no-bit n e h;
 }
 
 pub none-down : (row : ℕ → Row) (table : Table row) (live : ℕ → Bool → Bool) (sides x : ℕ) (enter : ℕ → Bool) → sides ≡ 0 → SidesDown row table live sides x enter 0 0

@@ -38,18 +38,18 @@ module _ {t : List ℕ} {root booleans sides weaks first held live-a live-b : �
   rows-of-sides : SideRows t (rowOf s) booleans sides truth x
   rows-of-sides = side-rows t (s .counts) (s .subset) root booleans sides weaks (s .plan) (s .root-low) truth x right
 
-  module _ (lefts : List ℕ) (ends early : ℕ) (ends-over : OverSides t sides ends) (early-over : OverSides t sides early)
+  module _ (lefts : List ℕ) (ends early empty : ℕ) (ends-over : OverSides t sides ends) (early-over : OverSides t sides early) (empty-over : OverSides t sides empty)
       (found : (row : ℕ → Row) (before : ℕ → Bool → Bool) (x : ℕ) → Sound row → SideRows t row booleans sides truth x → LiveWords sides before live-a live-b → LiveAtCells row before
-      → SidesUp t row before sides x lefts ends early)
+      → SidesUp t row before sides x lefts ends early empty)
       (begin held′ : ℕ) (never : Bool)
-      (pass : (x root : ℕ) (node : ℕ → Node) (reached : ℕ → Bool) (hits : ℕ → Bool → Bool) → PropertyRows t (bitOr booleans weaks) first held truth ends early x root node reached hits
+      (pass : (x root : ℕ) (node : ℕ → Node) (reached : ℕ → Bool) (hits : ℕ → Bool → Bool) → PropertyRows t (bitOr booleans weaks) first held truth ends early empty x root node reached hits
       → Passed first held x root node hits begin held′ never) where
-    up : SidesUp t (rowOf s) (s .kept .live) sides x lefts ends early
+    up : SidesUp t (rowOf s) (s .kept .live) sides x lefts ends early empty
     up = found (rowOf s) (s .kept .live) x (tableOf s .sound) rows-of-sides (λ n i f. s .represented .live-is n f) (s .in-place .live-cells)
 
     passed : Passed first held x root (nodeOf s) (hit (rowOf s) (tableOf s) (nodeOf s) root (s .kept) (s .time) x) begin held′ never
     passed = pass x root (nodeOf s) _ _
-        (property-rows t (s .counts) (s .subset) root booleans sides weaks (s .plan) (s .root-low) (s .kept) (s .in-place) (s .time) x truth right only ends early lefts up ends-over early-over
+        (property-rows t (s .counts) (s .subset) root booleans sides weaks (s .plan) (s .root-low) (s .kept) (s .in-place) (s .time) x truth right only ends early empty lefts up ends-over early-over empty-over
         (s .root-proper) first held (s .first-is) (s .represented .held-is))
 
     module _ (a b : ℕ) (in-a : OnlyIn sides a) (in-b : OnlyIn sides b)

@@ -78,6 +78,19 @@ has-early x = go (x .early) (x .ends 7) (x .empty)
     go false false true = refl
     go false false false = refl
 
+pub has-empty : (x : Part) → has 4 (sideCode x) ≡ x .empty
+has-empty x = go (x .early) (x .ends 7) (x .empty)
+  where
+    go : (a b c : Bool) → has 4 (code a b c) ≡ c
+    go true true true = refl
+    go true true false = refl
+    go true false true = refl
+    go true false false = refl
+    go false true true = refl
+    go false true false = refl
+    go false false true = refl
+    go false false false = refl
+
 pub has-go : (w : Use) → has 2 (useCode w) ≡ w .go 7
 has-go w = go (w .into 7) (w .go 7)
   where

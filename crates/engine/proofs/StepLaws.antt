@@ -9,6 +9,7 @@ use lib.Dec.{T, eqb}
 use borrow.Author.Tests.{eqb-true, ne-eqb}
 use Rattle.psl.specs.Booleans.{Boolean, bit, holds}
 use Rattle.psl.specs.Sequences.{Sequence}
+use Rattle.psl.specs.Proof.Marks.Automaton.{nullable}
 use Rattle.psl.specs.Proof.Model.Nodes.{Node, n-bool, n-weak, n-never, n-both, n-next, n-always, n-if-else, n-implies, n-or, n-until, n-suffix, n-suffix-next}
 use Rattle.psl.specs.Proof.Model.Step.{sends, keeps}
 use Rattle.psl.specs.Proof.Model.Monitor.{use-of}
@@ -17,7 +18,7 @@ use Rattle.table.specs.Choice.{pick}
 use Rattle.engine.specs.Reads.{kindOf, aOf, bOf, cOf}
 use Rattle.engine.specs.Properties.{Inert, inert-boolean, inert-weak, Keeping, keeping-next, keeping-always, keeping-until, keeping-suffix-next, keeping-never, Operand, Condition}
 use Rattle.engine.specs.Properties.{PropertyRow, reads-both, reads-next, reads-if, reads-implies, reads-or, reads-always, reads-until, reads-suffix, reads-suffix-next, reads-never}
-use Rattle.engine.specs.PropertyVisits.{Stage, begunAt, keptAt, branchAt, guardAt, laterAt, lastsAt, lastingAt, plainAt, earlyAt, matchedAt, runningAt, leftAt, visitAt}
+use Rattle.engine.specs.PropertyVisits.{Stage, begunAt, keptAt, branchAt, guardAt, laterAt, lastsAt, lastingAt, plainAt, earlyAt, matchedAt, runningAt, owesAt, leftAt, visitAt}
 use Rattle.engine.specs.declared.properties.Letter.{Letter}
 use Rattle.engine.proofs.TruthLaws.{clash}
 
@@ -101,9 +102,9 @@ lower {v = v} k l o = ne-eqb k v (λ e. omega (arith, o .smaller))
 to : {reached : ℕ → Bool} {n v : ℕ} (k : ℕ) → eqb k v ≡ true → Operand reached n v → reached k ≡ true
 to {reached = reached} {v = v} k e o = ap reached (eqb-true k v e) ∙ o .is-reached
 
-module _ {t : List ℕ} {truth x : ℕ} {reached : ℕ → Bool} {n : ℕ} where
+module _ {t : List ℕ} {truth empty x : ℕ} {reached : ℕ → Bool} {n : ℕ} where
   -- it sends to smaller rows, which are reached
-  pub sends-lower : {nd : Node} → PropertyRow t truth x reached n nd → (now was hit : Bool) (k : ℕ) → n ≤ k → sends nd now was hit x k ≡ false
+  pub sends-lower : {nd : Node} → PropertyRow t truth empty x reached n nd → (now was hit : Bool) (k : ℕ) → n ≤ k → sends nd now was hit x k ≡ false
   sends-lower (reads-both e a b) now was hit k l = rw (lower k l a, lower k l b) (none now)
   sends-lower (reads-next e a) now was hit k l = rw (lower k l a) (none was)
   sends-lower (reads-if {b = b} e c p q) now was hit k l = rw (lower k l p, lower k l q, none (holds b x), none (not (holds b x))) (none now)
@@ -112,10 +113,10 @@ module _ {t : List ℕ} {truth x : ℕ} {reached : ℕ → Bool} {n : ℕ} where
   sends-lower (reads-always e p) now was hit k l = rw (lower k l p) (none (was || now))
   sends-lower (reads-until {b = b} e p c) now was hit k l = rw (lower k l p, none (not (holds b x))) (none (was || now))
   sends-lower (reads-suffix e a p) now was hit k l = rw (lower k l p) (none hit)
-  sends-lower (reads-suffix-next e a p) now was hit k l = rw (lower k l p) (none was)
+  sends-lower (reads-suffix-next {r = r} e a u p) now was hit k l = rw (lower k l p) (none (was || (now && nullable r)))
   sends-lower (reads-never e a) now was hit k l = refl
 
-  pub sends-reached : {nd : Node} → PropertyRow t truth x reached n nd → (now was hit : Bool) (k : ℕ) → sends nd now was hit x k ≡ true → reached k ≡ true
+  pub sends-reached : {nd : Node} → PropertyRow t truth empty x reached n nd → (now was hit : Bool) (k : ℕ) → sends nd now was hit x k ≡ true → reached k ≡ true
   sends-reached (reads-both e a b) now was hit k h = either (eqb k (aOf t n)) (eqb k (bOf t n)) (right now (eqb k (aOf t n) || eqb k (bOf t n)) h) (λ z. to k z a) (λ z. to k z b)
   sends-reached (reads-next e a) now was hit k h = to k (right was (eqb k (aOf t n)) h) a
   sends-reached (reads-if {b = b} e c p q) now was hit k h =
@@ -126,11 +127,11 @@ module _ {t : List ℕ} {truth x : ℕ} {reached : ℕ → Bool} {n : ℕ} where
   sends-reached (reads-always e p) now was hit k h = to k (right (was || now) (eqb k (aOf t n)) h) p
   sends-reached (reads-until {b = b} e p c) now was hit k h = to k (right (not (holds b x)) (eqb k (aOf t n)) (right (was || now) (not (holds b x) && eqb k (aOf t n)) h)) p
   sends-reached (reads-suffix e a p) now was hit k h = to k (right hit (eqb k (bOf t n)) h) p
-  sends-reached (reads-suffix-next e a p) now was hit k h = to k (right was (eqb k (bOf t n)) h) p
+  sends-reached (reads-suffix-next {r = r} e a u p) now was hit k h = to k (right (was || (now && nullable r)) (eqb k (bOf t n)) h) p
   sends-reached (reads-never e a) now was hit k h = clash h refl
 
   -- a row that neither begins nor was held, and whose left side does not end
-  pub idle-quiet : {nd : Node} → PropertyRow t truth x reached n nd → (hit : Bool) → (40 ≤ kindOf t n → hit ≡ false) → Quiet nd false false hit x
+  pub idle-quiet : {nd : Node} → PropertyRow t truth empty x reached n nd → (hit : Bool) → (40 ≤ kindOf t n → hit ≡ false) → Quiet nd false false hit x
   idle-quiet (reads-both e a b) hit h = record { no-sends = λ k. refl; no-keeps = refl; no-breaks = refl }
   idle-quiet (reads-next e a) hit h = record { no-sends = λ k. refl; no-keeps = refl; no-breaks = refl }
   idle-quiet (reads-if e c p q) hit h = record { no-sends = λ k. refl; no-keeps = refl; no-breaks = refl }
@@ -139,7 +140,7 @@ module _ {t : List ℕ} {truth x : ℕ} {reached : ℕ → Bool} {n : ℕ} where
   idle-quiet (reads-always e p) hit h = record { no-sends = λ k. refl; no-keeps = refl; no-breaks = refl }
   idle-quiet (reads-until e p c) hit h = record { no-sends = λ k. refl; no-keeps = refl; no-breaks = refl }
   idle-quiet (reads-suffix e a p) hit h = record { no-sends = λ k. ap (λ (b : Bool). b && eqb k (bOf t n)) (h (omega arith)); no-keeps = refl; no-breaks = refl }
-  idle-quiet (reads-suffix-next e a p) hit h = record { no-sends = λ k. refl; no-keeps = h (omega arith); no-breaks = refl }
+  idle-quiet (reads-suffix-next e a u p) hit h = record { no-sends = λ k. refl; no-keeps = h (omega arith); no-breaks = refl }
   idle-quiet (reads-never e a) hit h = record { no-sends = λ k. refl; no-keeps = refl; no-breaks = h (omega arith) }
 
 -- one of two rows begins
@@ -174,10 +175,10 @@ module _ (t : List ℕ) (l : Letter) (x n : ℕ) (reached : ℕ → Bool) (low :
   operand : {v : ℕ} → Operand reached n v → v % 64 ≡ v
   operand o = mod-eq-of-lt (omega (arith, o .smaller))
 
-  pub visit-does : {nd : Node} → PropertyRow t (l .truth) x reached n nd → (bit (l .was) n ≡ true → Keeping nd)
+  pub visit-does : {nd : Node} → PropertyRow t (l .truth) (l .hits .empty) x reached n nd → (bit (l .was) n ≡ true → Keeping nd)
       → (40 ≤ kindOf t n → hit ≡ bit (l .hits .ends) n || ((bit (l .hits .early) n || bit (l .truth) (aOf t n)) && entered (use-of nd) (s .begin n) (bit (l .was) n)))
       → Does nd x n (bit (l .was) n) hit s (visitAt t n l s)
-  unfolding visitAt plainAt branchAt guardAt laterAt lastsAt lastingAt leftAt runningAt matchedAt earlyAt begunAt keptAt pick
+  unfolding visitAt plainAt branchAt guardAt laterAt lastsAt lastingAt leftAt owesAt runningAt matchedAt earlyAt begunAt keptAt pick
   visit-does (reads-both e a b) kept h =
       let now : s .begin n ≡ true = begins (omega arith) (λ z. elim (kept z) [ ]) in record {
         sent = λ k. rw (e, operand a, operand b, now) (or-assoc (s .begin k) (eqb k (aOf t n)) (eqb k (bOf t n)));
@@ -228,9 +229,9 @@ module _ (t : List ℕ) (l : Letter) (x n : ℕ) (reached : ℕ → Bool) (low :
         held = λ k. rw e (or-false (s .held k));
         broke = rw e (or-false (s .broken));
       }
-  visit-does (reads-suffix-next e a p) kept h =
+  visit-does (reads-suffix-next e a u p) kept h =
       let low : aOf t n % 64 ≡ aOf t n = mod-eq-of-lt a in record {
-        sent = λ k. rw (e, here, operand p);
+        sent = λ k. rw (e, here, operand p, u);
         held = λ k. rw (e, here, low, h (omega arith));
         broke = rw e (or-false (s .broken));
       }

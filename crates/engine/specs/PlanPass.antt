@@ -9,6 +9,7 @@ use mathlib.Core.Logic.{⊎-elim}
 use lib.Dec.{T, eqb, leb}
 use lib.Bits.{bitOr}
 use Rattle.psl.specs.Booleans.{Boolean, bit, holds, sample}
+use Rattle.psl.specs.Proof.Marks.Automaton.{nullable}
 use Rattle.psl.specs.Proof.Decide.Tells.{tells-lt, tells-eq, tells-and, tells-value, tells-true, true-tells, tells-no}
 use Rattle.psl.specs.Proof.Model.Nodes.{Node}
 use Rattle.psl.specs.Proof.Model.Monitor as M
@@ -22,7 +23,7 @@ use Rattle.lanes.specs.Expected.{Table, sequence-of}
 use Rattle.lanes.specs.UpPass.{Part, operand, operand-by, cell-part}
 use Rattle.lanes.specs.Ideal.{part-of}
 use Rattle.lanes.specs.State.{Kept, entered}
-use Rattle.lanes.specs.Cycle.{hit, hit-by}
+use Rattle.lanes.specs.Cycle.{hit, hit-by, left-empty}
 use Rattle.engine.specs.Reads.{kindOf, aOf, bOf}
 use Rattle.engine.specs.Planned.{Planned, OverLeft}
 use Rattle.engine.specs.Truths.{Truth, OnlyIn, BooleanRow, reads-true, reads-false, reads-signal, reads-not, reads-and, reads-or}
@@ -94,7 +95,8 @@ module _ (t : List ℕ) (c : Counts) (z : Subset t c) (root booleans sides weaks
       go false e = absurd (not-inert (beyond t c z root booleans sides weaks p root-low n e) h)
 
   module _ (k : Kept) (place : InPlace row node k) (time x truth : ℕ) (right : Truth booleans (booleanAt t) x truth) (only : OnlyIn booleans truth)
-      (ends early : ℕ) (lefts : List ℕ) (up : SidesUp t row (k .live) sides x lefts ends early) (ends-over : OverSides t sides ends) (early-over : OverSides t sides early) where
+      (ends early empty : ℕ) (lefts : List ℕ) (up : SidesUp t row (k .live) sides x lefts ends early empty) (ends-over : OverSides t sides ends) (early-over : OverSides t sides early)
+      (empty-over : OverSides t sides empty) where
     abbrev part : ℕ → Part
     part n = firstPart row (k .live) x n (aOf t n)
 
@@ -147,6 +149,17 @@ module _ (t : List ℕ) (c : Counts) (z : Subset t c) (root booleans sides weaks
             dark-cell true l d = ap (λ (v : Bool). v || entered (M.use-of (node n)) now (k .held n)) d
             dark-cell false l d = refl
 
+    -- whether a left side can be empty: a Boolean cannot
+    empties-are : (n : ℕ) → p .reached n ≡ true → OverLeft t n → bit empty n ≡ nullable (sequence-of row (aOf t n))
+    empties-are n e o = by (bit sides n) refl ∙ left-empty row rows (k .live) (sample x) n (aOf t n) (row-left n e o)
+      where
+        by : (s : Bool) → bit sides n ≡ s → bit empty n ≡ part n .empty
+        by true s = up .empty-are n s (omega (arith, o .from))
+        by false s =
+            let r = left-operand n e o in
+            let b = boolean-is t c z root booleans sides weaks p root-low (aOf t n) r (kind-low (aOf t n) (sym (p .left-in n e o) ∙ s)) in
+            off n s empty empty-over ∙ sym (ap (λ R. operand-by row (k .live) (sample x) (part-of row (k .live) (sample x)) R n false (aOf t n) .empty) (row-boolean (aOf t n) b r))
+
     -- a row over a left side of the set is reached
     side-left : (n : ℕ) → bit sides n ≡ true → 32 ≤ kindOf t n → (p .reached n ≡ true) × OverLeft t n
     side-left n s l = let h = p .side-rows n s in ⊎-elim (λ q. absurd (omega (arith, q .upto))) (λ o. (h .0, o)) (h .1)
@@ -174,7 +187,7 @@ module _ (t : List ℕ) (c : Counts) (z : Subset t c) (root booleans sides weaks
 
     module _ (root-proper : Proper t c z root booleans sides weaks p root-low root) (first was : ℕ) (first-is : (n : ℕ) → bit first n ≡ eqb n root && eqb time 0)
         (was-is : (n : ℕ) → bit was n ≡ k .held n) where
-      pub property-rows : PropertyRows t (bitOr booleans weaks) first was truth ends early x root node inside (hit row rows node root k time x)
+      pub property-rows : PropertyRows t (bitOr booleans weaks) first was truth ends early empty x root node inside (hit row rows node root k time x)
       property-rows = record {
         root-low = omega (arith, root-low, z .layout .nodes-range);
         up-to-root = λ n e. p .up-to-root n (proper-is t c z root booleans sides weaks p root-low n e .0);
@@ -186,6 +199,6 @@ module _ (t : List ℕ) (c : Counts) (z : Subset t c) (root booleans sides weaks
         ends-over = λ n e. (let h = ends-over n e in let s = side-left n (h .0) (h .1) in s .1 .from);
         leaf = leaf t c z root booleans sides weaks p root-low;
         beyond = beyond t c z root booleans sides weaks p root-low;
-        row = property-row t c z root booleans sides weaks p root-low x truth right;
+        row = property-row t c z root booleans sides weaks p root-low x truth right empty empties-are;
         hits = λ n e l m now. (let o = over n e m in hits-are n (o .0) (o .1) now ∙ ap (λ (b : Bool). bit ends n || ((bit early n || bit truth (aOf t n)) && entered (M.use-of (node n)) now b)) (sym (was-is n)));
       }

@@ -9,6 +9,7 @@ use mathlib.Core.Logic.{_⊎_, inl, inr, ⊎-elim}
 use lib.Dec.{T, T-not, eqb, ltb}
 use lib.Bits.{bitOr}
 use Rattle.psl.specs.Booleans.{Boolean, constant, bit, holds, sample}
+use Rattle.psl.specs.Proof.Marks.Automaton.{nullable}
 use Rattle.psl.specs.Proof.Decide.Tells.{Tells, does, doesnt, tells-lt, tells-eq, tells-and, tells-or, tells-not, tells-value, tells-true, true-tells, tells-no}
 use Rattle.psl.specs.Proof.Model.Nodes.{Node, n-bool, n-weak}
 use Rattle.psl.specs.Proof.Model.Monitor as M
@@ -103,7 +104,8 @@ module _ (t : List ℕ) (c : Counts) (z : Subset t c) (root booleans sides weaks
       (leaf-in n e)
 
   -- Of one sample x, with the truth of the Booleans.
-  module _ (x truth : ℕ) (true-word : Truth booleans (booleanAt t) x truth) where
+  module _ (x truth : ℕ) (true-word : Truth booleans (booleanAt t) x truth)
+      (empty : ℕ) (empties : (n : ℕ) → p .reached n ≡ true → OverLeft t n → bit empty n ≡ nullable (sequence-of row (aOf t n))) where
     condition : (n : ℕ) (e : p .reached n ≡ true) (k : ℕ) (f : Field) → kindOf t n ≡ k → IsB (holdsIn (fieldsOf k) f) → Condition truth x (valueAt t n f) (booleanAt t (valueAt t n f))
     condition n e k f q i =
         let h = boolean-operand t c z root booleans sides weaks p root-low n e k f q i in
@@ -117,7 +119,7 @@ module _ (t : List ℕ) (c : Counts) (z : Subset t c) (root booleans sides weaks
     left-low : (n : ℕ) (e : p .reached n ≡ true) (k : ℕ) → kindOf t n ≡ k → IsOperand (holdsIn (fieldsOf k) field-a) → aOf t n < 64
     left-low n e k q i = omega (arith, Tree.falls t c z n (low n e) k field-a q i, low n e, z .layout .nodes-range)
 
-    pub property-row : (n : ℕ) → proper n ≡ true → bit leaves n ≡ false → PropertyRow t truth x proper n (node n)
+    pub property-row : (n : ℕ) → proper n ≡ true → bit leaves n ≡ false → PropertyRow t truth empty x proper n (node n)
     unfolding nodeBy fieldsOf takesOf pick
     property-row n ok no-leaf = here (case-of t c z (sequence-of row) (p .reached) low n e)
       where
@@ -127,13 +129,13 @@ module _ (t : List ℕ) (c : Counts) (z : Subset t c) (root booleans sides weaks
         not-leaf : (bit booleans n ≡ true) ⊎ (bit weaks n ≡ true) → ⊥
         not-leaf h = subst T (sym (in-leaf n h) ∙ no-leaf) tt
 
-        as-node : (k : ℕ) → kindOf t n ≡ k → {nd : Node} → node n ≡ nd → PropertyRow t truth x proper n nd → PropertyRow t truth x proper n (node n)
-        as-node k q w r = subst (PropertyRow t truth x proper n) (sym w) r
+        as-node : (k : ℕ) → kindOf t n ≡ k → {nd : Node} → node n ≡ nd → PropertyRow t truth empty x proper n nd → PropertyRow t truth empty x proper n (node n)
+        as-node k q w r = subst (PropertyRow t truth empty x proper n) (sym w) r
 
         at : (k : ℕ) → kindOf t n ≡ k → W.At t c z root booleans sides weaks p root-low k n
         at k q = W.at t c z root booleans sides weaks p root-low k n e q
 
-        here : KindCase (kindOf t n) → PropertyRow t truth x proper n (node n)
+        here : KindCase (kindOf t n) → PropertyRow t truth empty x proper n (node n)
         here (a-boolean l) = absurd (not-leaf (inl (boolean-is t c z root booleans sides weaks p root-low n e l)))
         here (a-sequence l m) = absurd (proper-is n ok .1 (l, omega arith))
         here (k-weak q) = absurd (not-leaf (inr (p .weak-in n e q)))
@@ -145,5 +147,5 @@ module _ (t : List ℕ) (c : Counts) (z : Subset t c) (root booleans sides weaks
         here (k-always q) = as-node 38 q (at 38 q) (reads-always q (property n e 38 field-a q tt))
         here (k-until q) = as-node 39 q (at 39 q) (reads-until q (property n e 39 field-a q tt) (condition n e 39 field-b q tt))
         here (k-suffix q) = as-node 40 q (at 40 q) (reads-suffix q (left-low n e 40 q tt) (property n e 40 field-b q tt))
-        here (k-suffix-next q) = as-node 41 q (at 41 q) (reads-suffix-next q (left-low n e 41 q tt) (property n e 41 field-b q tt))
+        here (k-suffix-next q) = as-node 41 q (at 41 q) (reads-suffix-next q (left-low n e 41 q tt) (empties n e (record { from = omega arith; upto = omega arith })) (property n e 41 field-b q tt))
         here (k-never q) = as-node 42 q (at 42 q) (reads-never q (left-low n e 42 q tt))

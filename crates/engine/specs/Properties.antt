@@ -5,6 +5,7 @@ use mathlib.Core.Bool.{Bool, true, false, _&&_, _||_}
 use mathlib.Core.List.{List}
 use Rattle.psl.specs.Booleans.{Boolean, bit, holds}
 use Rattle.psl.specs.Sequences.{Sequence}
+use Rattle.psl.specs.Proof.Marks.Automaton.{nullable}
 use Rattle.psl.specs.Proof.Decide.Tells.{Tells}
 use Rattle.psl.specs.Proof.Model.Nodes.{Node, n-bool, n-weak, n-never, n-both, n-next, n-always, n-if-else, n-implies, n-or, n-until, n-suffix, n-suffix-next}
 use Rattle.psl.specs.Proof.Model.Step.{keeps}
@@ -37,21 +38,21 @@ pub record Condition (truth x v : ℕ) (b : Boolean) : Type 0 where
   pub is : bit truth v ≡ holds b x
 
 -- Row n reads as the node.
-pub data PropertyRow (t : List ℕ) (truth x : ℕ) (reached : ℕ → Bool) (n : ℕ) : Node → Type 0 where
-  reads-both : kindOf t n ≡ 33 → Operand reached n (aOf t n) → Operand reached n (bOf t n) → PropertyRow t truth x reached n (n-both (aOf t n) (bOf t n))
-  reads-next : kindOf t n ≡ 34 → Operand reached n (aOf t n) → PropertyRow t truth x reached n (n-next (aOf t n))
+pub data PropertyRow (t : List ℕ) (truth empty x : ℕ) (reached : ℕ → Bool) (n : ℕ) : Node → Type 0 where
+  reads-both : kindOf t n ≡ 33 → Operand reached n (aOf t n) → Operand reached n (bOf t n) → PropertyRow t truth empty x reached n (n-both (aOf t n) (bOf t n))
+  reads-next : kindOf t n ≡ 34 → Operand reached n (aOf t n) → PropertyRow t truth empty x reached n (n-next (aOf t n))
   reads-if : {b : Boolean} → kindOf t n ≡ 35 → Condition truth x (aOf t n) b → Operand reached n (bOf t n) → Operand reached n (cOf t n)
-      → PropertyRow t truth x reached n (n-if-else b (bOf t n) (cOf t n))
-  reads-implies : {b : Boolean} → kindOf t n ≡ 36 → Condition truth x (aOf t n) b → Operand reached n (bOf t n) → PropertyRow t truth x reached n (n-implies b (bOf t n))
-  reads-or : {b : Boolean} → kindOf t n ≡ 37 → Operand reached n (aOf t n) → Condition truth x (bOf t n) b → PropertyRow t truth x reached n (n-or (aOf t n) b)
-  reads-always : kindOf t n ≡ 38 → Operand reached n (aOf t n) → PropertyRow t truth x reached n (n-always (aOf t n))
-  reads-until : {b : Boolean} → kindOf t n ≡ 39 → Operand reached n (aOf t n) → Condition truth x (bOf t n) b → PropertyRow t truth x reached n (n-until (aOf t n) b)
-  reads-suffix : {r : Sequence} → kindOf t n ≡ 40 → aOf t n < 64 → Operand reached n (bOf t n) → PropertyRow t truth x reached n (n-suffix r (bOf t n))
-  reads-suffix-next : {r : Sequence} → kindOf t n ≡ 41 → aOf t n < 64 → Operand reached n (bOf t n) → PropertyRow t truth x reached n (n-suffix-next r (bOf t n))
-  reads-never : {r : Sequence} → kindOf t n ≡ 42 → aOf t n < 64 → PropertyRow t truth x reached n (n-never r)
+      → PropertyRow t truth empty x reached n (n-if-else b (bOf t n) (cOf t n))
+  reads-implies : {b : Boolean} → kindOf t n ≡ 36 → Condition truth x (aOf t n) b → Operand reached n (bOf t n) → PropertyRow t truth empty x reached n (n-implies b (bOf t n))
+  reads-or : {b : Boolean} → kindOf t n ≡ 37 → Operand reached n (aOf t n) → Condition truth x (bOf t n) b → PropertyRow t truth empty x reached n (n-or (aOf t n) b)
+  reads-always : kindOf t n ≡ 38 → Operand reached n (aOf t n) → PropertyRow t truth empty x reached n (n-always (aOf t n))
+  reads-until : {b : Boolean} → kindOf t n ≡ 39 → Operand reached n (aOf t n) → Condition truth x (bOf t n) b → PropertyRow t truth empty x reached n (n-until (aOf t n) b)
+  reads-suffix : {r : Sequence} → kindOf t n ≡ 40 → aOf t n < 64 → Operand reached n (bOf t n) → PropertyRow t truth empty x reached n (n-suffix r (bOf t n))
+  reads-suffix-next : {r : Sequence} → kindOf t n ≡ 41 → aOf t n < 64 → bit empty n ≡ nullable r → Operand reached n (bOf t n) → PropertyRow t truth empty x reached n (n-suffix-next r (bOf t n))
+  reads-never : {r : Sequence} → kindOf t n ≡ 42 → aOf t n < 64 → PropertyRow t truth empty x reached n (n-never r)
 
--- What the pass is told: the rows held before, the truth of the Booleans, and which left sides end, under way (ends) or at once (early).
-pub record PropertyRows (t : List ℕ) (leaves first was truth ends early x root : ℕ) (node : ℕ → Node) (reached : ℕ → Bool) (hit : ℕ → Bool → Bool) : Type 0 where
+-- What the pass is told: the rows held before, the truth of the Booleans, and which left sides end, under way (ends) or at once (early), or can be empty.
+pub record PropertyRows (t : List ℕ) (leaves first was truth ends early empty x root : ℕ) (node : ℕ → Node) (reached : ℕ → Bool) (hit : ℕ → Bool → Bool) : Type 0 where
   pub root-low : root < 64
   pub up-to-root : (n : ℕ) → reached n ≡ true → n ≤ root
   pub first-in : (n : ℕ) → bit first n ≡ true → reached n ≡ true
@@ -61,7 +62,7 @@ pub record PropertyRows (t : List ℕ) (leaves first was truth ends early x root
   pub ends-over : (n : ℕ) → bit ends n ≡ true → 40 ≤ kindOf t n
   pub leaf : (n : ℕ) → bit leaves n ≡ true → Inert (node n)
   pub beyond : (n : ℕ) → reached n ≡ false → Inert (node n)
-  pub row : (n : ℕ) → reached n ≡ true → bit leaves n ≡ false → PropertyRow t truth x reached n (node n)
+  pub row : (n : ℕ) → reached n ≡ true → bit leaves n ≡ false → PropertyRow t truth empty x reached n (node n)
   pub hits : (n : ℕ) → reached n ≡ true → bit leaves n ≡ false → 40 ≤ kindOf t n → (now : Bool)
       → hit n now ≡ bit ends n || ((bit early n || bit truth (aOf t n)) && entered (use-of (node n)) now (bit was n))
 

@@ -68,12 +68,16 @@ runningAt t n l s = record {
   broken = s .broken || matchedAt t n l (s .begin (n % 64) || bit (l .was) (n % 64));
 }
 
+-- |=>: its left side ended on the last letter, or can be empty and the row begins.
+unfoldable pub owesAt : ℕ → Letter → Stage → Bool
+owesAt n l s = bit (l .was) (n % 64) || (s .begin (n % 64) && bit (l .hits .empty) (n % 64))
+
 -- |->, |=>, never
 unfoldable pub leftAt : List ℕ → ℕ → ℕ → Letter → Stage → Stage
 leftAt t n kind l s =
     pick (eqb kind 42) (runningAt t n l s)
     (pick (eqb kind 40) (begunAt s (bOf t n) (matchedAt t n l (s .begin (n % 64))))
-    (keptAt (begunAt s (bOf t n) (bit (l .was) (n % 64))) n (matchedAt t n l (s .begin (n % 64)))))
+    (keptAt (begunAt s (bOf t n) (owesAt n l s)) n (matchedAt t n l (s .begin (n % 64)))))
 
 unfoldable pub visitAt : List ℕ → ℕ → Letter → Stage → Stage
 visitAt t n l s = pick (ltb (kindOf t n) 40) (plainAt t n (kindOf t n) l s) (leftAt t n (kindOf t n) l s)

@@ -52,26 +52,27 @@ pub record PartOf (t : List ℕ) (truth word : ℕ) (parts : List ℕ) (n a r : 
   pub pair : Pair (kindOf t n) a (SecondOf t truth word parts n) r
   pub loop : Loop (kindOf t n) a r
 
--- The left sides that end, by the number a of the operand of row n.
-pub record Hit (n a ends early ends′ early′ : ℕ) : Type 0 where
+-- The left sides that end or can be empty, by the number a of the operand of row n.
+pub record Hit (n a ends early empty ends′ early′ empty′ : ℕ) : Type 0 where
   pub ends-on : WithBit ends n (has 2 a) ends′
   pub early-on : WithBit early n (has 1 a) early′
+  pub empty-on : WithBit empty n (has 4 a) empty′
 
 -- Row n is found: what its first operand does, then its own part or that its left side ends.
-pub record Found (t : List ℕ) (truth word : ℕ) (parts parts′ : List ℕ) (n a ends early ends′ early′ : ℕ) : Type 0 where
+pub record Found (t : List ℕ) (truth word : ℕ) (parts parts′ : List ℕ) (n a ends early empty ends′ early′ empty′ : ℕ) : Type 0 where
   pub part-is : kindOf t n < 32 → (p : ℕ) × PartOf t truth word parts n a p × (parts′ ≡ set parts (n % 64) p)
-  pub hits-same : kindOf t n < 32 → (ends′ ≡ ends) × (early′ ≡ early)
-  pub hit-is : 32 ≤ kindOf t n → Hit n a ends early ends′ early′
+  pub hits-same : kindOf t n < 32 → (ends′ ≡ ends) × (early′ ≡ early) × (empty′ ≡ empty)
+  pub hit-is : 32 ≤ kindOf t n → Hit n a ends early empty ends′ early′ empty′
   pub parts-same : 32 ≤ kindOf t n → parts′ ≡ parts
 
-pub record Put (t : List ℕ) (truth word : ℕ) (parts parts′ lefts lefts′ : List ℕ) (n a ends early ends′ early′ : ℕ) : Type 0 where
-  pub found : Found t truth word parts parts′ n a ends early ends′ early′
+pub record Put (t : List ℕ) (truth word : ℕ) (parts parts′ lefts lefts′ : List ℕ) (n a ends early empty ends′ early′ empty′ : ℕ) : Type 0 where
+  pub found : Found t truth word parts parts′ n a ends early empty ends′ early′ empty′
   pub lefts-is : lefts′ ≡ set lefts (n % 64) a
 
-pub record Upped (t : List ℕ) (truth live-a live-b : ℕ) (parts parts′ lefts lefts′ : List ℕ) (n ends early ends′ early′ : ℕ) : Type 0 where
+pub record Upped (t : List ℕ) (truth live-a live-b : ℕ) (parts parts′ lefts lefts′ : List ℕ) (n ends early empty ends′ early′ empty′ : ℕ) : Type 0 where
   pub first : ℕ
   pub seen : SeenAt parts truth live-a n (aOf t n) first
-  pub put : Put t truth live-b parts parts′ lefts lefts′ n first ends early ends′ early′
+  pub put : Put t truth live-b parts parts′ lefts lefts′ n first ends early empty ends′ early′ empty′
 
 -- ---- down the rows
 

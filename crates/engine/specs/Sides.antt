@@ -68,11 +68,12 @@ firstPart row live x n a = operand row live (sample x) (part-of row live (sample
 abbrev pub LeftsFound : List ℕ → (ℕ → Row) → (ℕ → Bool → Bool) → ℕ → ℕ → List ℕ → Type 0
 LeftsFound t row live sides x lefts = (n : ℕ) → bit sides n ≡ true → getD lefts n 0 ≡ sideCode (firstPart row live x n (aOf t n))
 
--- What the upward pass leaves: the first operand's number at each row of the set, and the left sides that end.
-pub record SidesUp (t : List ℕ) (row : ℕ → Row) (live : ℕ → Bool → Bool) (sides x : ℕ) (lefts : List ℕ) (ends early : ℕ) : Type 0 where
+-- What the upward pass leaves: the first operand's number at each row of the set, the left sides that end, and those that can be empty.
+pub record SidesUp (t : List ℕ) (row : ℕ → Row) (live : ℕ → Bool → Bool) (sides x : ℕ) (lefts : List ℕ) (ends early empty : ℕ) : Type 0 where
   pub lefts-are : LeftsFound t row live sides x lefts
   pub ends-are : (n : ℕ) → bit sides n ≡ true → 32 ≤ kindOf t n → bit ends n ≡ firstPart row live x n (aOf t n) .ends 7
   pub early-are : (n : ℕ) → bit sides n ≡ true → 32 ≤ kindOf t n → bit early n ≡ firstPart row live x n (aOf t n) .early
+  pub empty-are : (n : ℕ) → bit sides n ≡ true → 32 ≤ kindOf t n → bit empty n ≡ firstPart row live x n (aOf t n) .empty
 
 -- It sets bits only at the rows of the set that stand over a left side.
 abbrev pub OverSides : List ℕ → ℕ → ℕ → Type 0

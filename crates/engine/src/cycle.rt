@@ -43,14 +43,18 @@ pub struct Outcome {
 // Which left sides and nevers end on the sample.
 fn ended(table: &[u8], plan: Plan, truth: u64, live: Live, lefts: &mut [u8; 64]) -> Hits
     requires { ⌜ Within (now table) (plan .sides) × (length (now lefts) ≡ 64) ⌝ }
-    ensures over { λ r. ⌜ OverSides (now (table .entry)) (plan .sides) (r .ends) × OverSides (now (table .entry)) (plan .sides) (r .early) ⌝ }
+    ensures over { λ r. ⌜ OverSides (now (table .entry)) (plan .sides) (r .ends) × OverSides (now (table .entry)) (plan .sides) (r .early) × OverSides (now (table .entry)) (plan .sides) (r .empty) ⌝ }
     ensures size { λ _. ⌜ length (now (lefts .exit)) ≡ 64 ⌝ }
     ensures found { λ r. ⌜ ((row : ℕ → Row) (before : ℕ → Bool → Bool) (x : ℕ) → Sound row → SideRows (now (table .entry)) row (plan .booleans) (plan .sides) truth x
         → LiveWords (plan .sides) before (live .a) (live .b) → LiveAtCells row before
-        → SidesUp (now (table .entry)) row before (plan .sides) x (now (lefts .exit)) (r .ends) (r .early)) ⌝ }
+        → SidesUp (now (table .entry)) row before (plan .sides) x (now (lefts .exit)) (r .ends) (r .early) (r .empty)) ⌝ }
 {
     if plan.sides == 0 {
-        return Hits { ends: 0, early: 0 };
+        return Hits {
+            ends: 0,
+            early: 0,
+            empty: 0,
+        };
     }
     let mut parts = [0u8; 64];
     sides::upward(

@@ -7,13 +7,14 @@ ghost use Rattle.psl.specs.Booleans.{bit};
 ghost use Rattle.psl.specs.Proof.Model.Nodes.{Node};
 ghost use Rattle.engine.specs.Reads.{Held};
 ghost use Rattle.engine.specs.Properties.{PropertyRows, Passed, Visits};
-ghost use Rattle.engine.specs.PropertyVisits.{stageOf, begunAt, keptAt, branchAt, guardAt, laterAt, lastsAt, lastingAt, plainAt, earlyAt, matchedAt, runningAt, leftAt, visitAt, called, Visitable};
+ghost use Rattle.engine.specs.PropertyVisits.{stageOf, begunAt, keptAt, branchAt, guardAt, laterAt, lastsAt, lastingAt, plainAt, earlyAt, matchedAt, runningAt, owesAt, leftAt, visitAt, called, Visitable};
 use crate::rows;
 
-// The rows over a left side that ends on this letter: by an attempt under way, and by one that begins now.
+// The rows over a left side that ends on this letter: by an attempt under way, and by one that begins now. And those over one that can be empty.
 pub struct Hits {
     pub ends: u64,
     pub early: u64,
+    pub empty: u64,
 }
 
 // What is known on this letter: the rows held before, the Booleans that hold, the left sides that end.
@@ -152,6 +153,13 @@ fn running(table: &[u8], n: u8, l: Letter, p: Pass) -> Pass
     }
 }
 
+// Whether |=> in row n owes its right side now: its left side ended on the last letter, or can be empty and the row begins.
+fn owes(n: u8, l: Letter, p: Pass) -> bool
+    ensures { λ r. ⌜ r ≡ owesAt n l (stageOf p) ⌝ }
+{
+    words::bit(l.was, n) | (words::bit(p.begin, n) & words::bit(l.hits.empty, n))
+}
+
 // |->, |=>, never.
 fn left(table: &[u8], n: u8, kind: u8, l: Letter, p: Pass) -> Pass
     requires { ⌜ Held (now table) n ⌝ }
@@ -164,7 +172,7 @@ fn left(table: &[u8], n: u8, kind: u8, l: Letter, p: Pass) -> Pass
     if kind == 40 {
         return begun(p, rows::b(table, n), ended);
     }
-    kept(begun(p, rows::b(table, n), words::bit(l.was, n)), n, ended)
+    kept(begun(p, rows::b(table, n), owes(n, l, p)), n, ended)
 }
 
 fn row(table: &[u8], n: u8, l: Letter, p: Pass) -> Pass
@@ -196,7 +204,7 @@ fn visits(l: Letter, p: Pass, ahead: u64) -> u64
 pub(crate) fn downward(table: &[u8], first: u64, leaves: u64, l: Letter) -> Pass
     requires { ⌜ Visits (now table) leaves first (l .was) (l .hits .ends) ⌝ }
     ensures { λ r. ⌜ ((x root : ℕ) (node : ℕ → Node) (reached : ℕ → Bool) (hit : ℕ → Bool → Bool)
-        → PropertyRows (now (table .entry)) leaves first (l .was) (l .truth) (l .hits .ends) (l .hits .early) x root node reached hit
+        → PropertyRows (now (table .entry)) leaves first (l .was) (l .truth) (l .hits .ends) (l .hits .early) (l .hits .empty) x root node reached hit
         → Passed first (l .was) x root node hit (r .begin) (r .held) (r .broken)) ⌝ }
 {
     let mut p = Pass {

@@ -125,11 +125,12 @@ fn part(table: &[u8], n: u8, kind: u8, a: u8, live: u64, truth: u64, parts: &[u8
 }
 
 fn hit(hits: Hits, n: u8, a: u8) -> Hits
-    ensures { λ r. ⌜ Hit n a (hits .ends) (hits .early) (r .ends) (r .early) ⌝ }
+    ensures { λ r. ⌜ Hit n a (hits .ends) (hits .early) (hits .empty) (r .ends) (r .early) (r .empty) ⌝ }
 {
     Hits {
         ends: words::with_bit(hits.ends, n, a & 2 != 0),
         early: words::with_bit(hits.early, n, a & 1 != 0),
+        empty: words::with_bit(hits.empty, n, a & 4 != 0),
     }
 }
 
@@ -146,7 +147,7 @@ fn put(
 ) -> Hits
     requires { ⌜ Held (now table) n × (length (now parts) ≡ 64) × (length (now lefts) ≡ 64) ⌝ }
     ensures { λ r. ⌜ Put (now (table .entry)) truth live (now (parts .entry)) (now (parts .exit)) (now (lefts .entry)) (now (lefts .exit)) n a
-        (hits .ends) (hits .early) (r .ends) (r .early) ⌝ }
+        (hits .ends) (hits .early) (hits .empty) (r .ends) (r .early) (r .empty) ⌝ }
 {
     let kind = rows::kind(table, n);
     let i = (n % 64) as usize;
@@ -175,7 +176,7 @@ fn up(
 ) -> Hits
     requires { ⌜ Held (now table) n × (length (now parts) ≡ 64) × (length (now lefts) ≡ 64) ⌝ }
     ensures { λ r. ⌜ Upped (now (table .entry)) truth (live .a) (live .b) (now (parts .entry)) (now (parts .exit)) (now (lefts .entry)) (now (lefts .exit)) n
-        (hits .ends) (hits .early) (r .ends) (r .early) ⌝ }
+        (hits .ends) (hits .early) (hits .empty) (r .ends) (r .early) (r .empty) ⌝ }
 {
     let a = seen(rows::a(table, n), words::bit(live.a, n), truth, &*parts);
     put(table, n, a, live.b, truth, hits, &mut *parts, &mut *lefts)
@@ -191,14 +192,18 @@ pub(crate) fn upward(
     lefts: &mut [u8; 64],
 ) -> Hits
     requires { ⌜ Within (now table) sides × (length (now parts) ≡ 64) × (length (now lefts) ≡ 64) ⌝ }
-    ensures over { λ r. ⌜ OverSides (now (table .entry)) sides (r .ends) × OverSides (now (table .entry)) sides (r .early) ⌝ }
+    ensures over { λ r. ⌜ OverSides (now (table .entry)) sides (r .ends) × OverSides (now (table .entry)) sides (r .early) × OverSides (now (table .entry)) sides (r .empty) ⌝ }
     ensures size { λ _. ⌜ length (now (lefts .exit)) ≡ 64 ⌝ }
     ensures found { λ r. ⌜ ((row : ℕ → Row) (before : ℕ → Bool → Bool) (x : ℕ) → Sound row → SideRows (now (table .entry)) row booleans sides truth x
         → LiveWords sides before (live .a) (live .b) → LiveAtCells row before
-        → SidesUp (now (table .entry)) row before sides x (now (lefts .exit)) (r .ends) (r .early)) ⌝ }
+        → SidesUp (now (table .entry)) row before sides x (now (lefts .exit)) (r .ends) (r .early) (r .empty)) ⌝ }
 {
     cells(booleans, truth, &mut *parts);
-    let mut hits = Hits { ends: 0, early: 0 };
+    let mut hits = Hits {
+        ends: 0,
+        early: 0,
+        empty: 0,
+    };
     let mut left = sides;
     while left != 0 {
         let n = words::lowest(left);

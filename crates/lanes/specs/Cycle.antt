@@ -7,8 +7,9 @@ use mathlib.Core.Bool.{Bool, false, not, _&&_}
 use mathlib.Core.List.{List, [], _∷_, _++_}
 use lib.Dec.{eqb}
 use lib.ListN.{length}
-use Rattle.psl.specs.Booleans.{sample}
+use Rattle.psl.specs.Booleans.{Letter, sample}
 use Rattle.psl.specs.Verdicts.{pending, Right}
+use Rattle.psl.specs.Proof.Marks.Automaton.{nullable}
 use Rattle.psl.specs.Proof.Decide.Tells.{Tells, any}
 use Rattle.psl.specs.Proof.Model.Nodes.{Node, Falls, propAt}
 use Rattle.psl.specs.Proof.Model.Step.{keeps}
@@ -19,8 +20,8 @@ use Rattle.psl.specs.Proof.Model.Machine.{machine, good}
 use Rattle.psl.specs.Proof.Model.Monitor as M
 use Rattle.lanes.specs.Families.{moved-to}
 use Rattle.lanes.specs.Rows.{Row, r-bool, r-then, r-fuse, r-alt, r-star, r-plus, r-weak, r-left, r-rest}
-use Rattle.lanes.specs.Expected.{Table}
-use Rattle.lanes.specs.UpPass.{operand}
+use Rattle.lanes.specs.Expected.{Table, sequence-of, left-has, marks-sit}
+use Rattle.lanes.specs.UpPass.{operand, part-ok}
 use Rattle.lanes.specs.Uses.{ended-lanes}
 use Rattle.lanes.specs.DownPass.{Work, weak-use, left-use}
 use Rattle.lanes.specs.Ideal.{part-of, parts-right, whole-work, whole-right}
@@ -81,6 +82,11 @@ module _ (row : ℕ → Row) (t : Table row) (node : ℕ → Node) (root : ℕ) 
   -- a row breaks by itself
   unfoldable pub broke : ℕ → Bool
   broke n = breaksAt (node n) (begins n) (hit n (begins n)) (sets-next n 0) x
+
+-- Whether the left side of row n can be empty is what the upward pass finds.
+pub left-empty : (row : ℕ → Row) (t : Table row) (live : ℕ → Bool → Bool) (c : Letter) (n a : ℕ) → row n ≡ r-left a
+    → operand row live c (part-of row live c) n false a .empty ≡ nullable (sequence-of row a)
+left-empty row t live c n a e = part-ok row live c (part-of row live c) (parts-right row live c (t .sound)) (marks-sit row t live n false a (left-has row n a e)) .empty-is
 
 -- It is the model's cycle.
 module _ (row : ℕ → Row) (t : Table row) (node : ℕ → Node) (shape : (n : ℕ) → Shape row (row n) (node n)) (root : ℕ)

@@ -38,8 +38,8 @@ returns-2 c =
 b-requires-2 : tie.Need-b-requires-2
 b-requires-2 c κs = search needs
 
-bit-requires-2 : tie.Need-bit-requires-2
-bit-requires-2 c κs = search needs
+owes-requires : tie.Need-owes-requires
+owes-requires c κs = search needs
 
 begun-requires-2 : tie.Need-begun-requires-2
 begun-requires-2 c κs = search needs
@@ -52,7 +52,7 @@ unfolding stageOf leftAt
 returns-3 c =
     let at = c .before .before .before .before .before in let start = at .before .before .before .before .args in
     no-so _ _ _ (ne-eqb _ _ (at .before .before .if1 .left)) (no-so _ _ _ (ne-eqb _ _ (c .before .before .before .before .if2 .left))
-    (c .kept .ensures ∙ ap₂ (λ (s : Stage) (on : Bool). keptAt s (start .n) on) (rw (c .before .before .before .b2 .ensures, c .before .before .bit2 .ensures) at (c .before .begun2 .ensures))
+    (c .kept .ensures ∙ ap₂ (λ (s : Stage) (on : Bool). keptAt s (start .n) on) (rw (c .before .before .before .b2 .ensures, c .before .before .owes .ensures) at (c .before .begun2 .ensures))
     (at .matched .ensures ∙ ap (matchedAt (start .table .now) (start .n) (start .l)) (at .before .bit .ensures))))
 
 pub left-spec : {M : Type 1} → statement M
@@ -67,7 +67,7 @@ left-spec =
     begun-requires
     returns-2
     b-requires-2
-    bit-requires-2
+    owes-requires
     begun-requires-2
     kept-requires
     returns-3)
