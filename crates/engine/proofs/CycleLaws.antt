@@ -15,6 +15,7 @@ use Rattle.words.specs.Sets.{HasFrom}
 use Rattle.lanes.specs.Rows.{Row}
 use Rattle.lanes.specs.Expected.{Table}
 use Rattle.engine.specs.Reads.{Held, Within}
+use Rattle.engine.specs.declared.properties.Hits.{Hits}
 use Rattle.engine.specs.Sides.{SidesUp, OverSides, SidesDown}
 use Rattle.engine.specs.WeakParts.{WeaksUp}
 use Rattle.engine.specs.WeakPass.{WeaksDown}
@@ -34,8 +35,8 @@ no-bit n e h = absurd (subst T (sym h ∙ ap (λ (v : ℕ). bit v n) e ∙ bit-n
 pub none-over : (t : List ℕ) (sides : ℕ) → OverSides t sides 0
 none-over t sides n h = no-bit n refl h
 
-pub none-up : (t : List ℕ) (row : ℕ → Row) (live : ℕ → Bool → Bool) (sides x : ℕ) (lefts : List ℕ) → sides ≡ 0 → SidesUp t row live sides x lefts 0 0 0
-none-up t row live sides x lefts e = record {
+pub none-up : (t : List ℕ) (row : ℕ → Row) (live : ℕ → Bool → Bool) (sides x : ℕ) (lefts : List ℕ) (hits : Hits) → sides ≡ 0 → SidesUp t row live sides x lefts hits
+none-up t row live sides x lefts hits e = record {
   lefts-are = λ n h. no-bit n e h;
   ends-are = λ n h. no-bit n e h;
   early-are = λ n h. no-bit n e h;

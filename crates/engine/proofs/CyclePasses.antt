@@ -14,7 +14,9 @@ use Rattle.lanes.specs.Expected.{Table}
 use Rattle.lanes.specs.Cycle.{hit, enters}
 use Rattle.engine.specs.Truths.{Truth, OnlyIn, BooleanRows}
 use Rattle.engine.specs.Properties.{PropertyRows, Passed}
-use Rattle.engine.specs.Sides.{SideRows, SideUsers, LiveWords, LiveAtCells, LeftsFound, SidesUp, OverSides, SidesEnter, SidesDown}
+use Rattle.engine.specs.declared.properties.Letter.{Letter}
+use Rattle.engine.specs.declared.properties.Hits.{Hits}
+use Rattle.engine.specs.Sides.{SideRows, SideUsers, LiveWords, LiveAtCells, LeftsFound, SidesUp, HitsOver, SidesEnter, SidesDown}
 use Rattle.engine.specs.Weaks.{weaksAbove}
 use Rattle.engine.specs.CycleWeaks.{WeaksLeft, no-weaks, weaks-moved, WeaksTold}
 use Rattle.engine.specs.PlanBooleans.{boolean-rows}
@@ -38,19 +40,22 @@ module _ {t : List ℕ} {root booleans sides weaks first held live-a live-b : �
   rows-of-sides : SideRows t (rowOf s) booleans sides truth x
   rows-of-sides = side-rows t (s .counts) (s .subset) root booleans sides weaks (s .plan) (s .root-low) truth x right
 
-  module _ (lefts : List ℕ) (ends early empty : ℕ) (ends-over : OverSides t sides ends) (early-over : OverSides t sides early) (empty-over : OverSides t sides empty)
+  abbrev letter : Hits → Letter
+  letter hits = record { was = held; truth = truth; hits = hits }
+
+  module _ (lefts : List ℕ) (hits : Hits) (over : HitsOver t sides hits)
       (found : (row : ℕ → Row) (before : ℕ → Bool → Bool) (x : ℕ) → Sound row → SideRows t row booleans sides truth x → LiveWords sides before live-a live-b → LiveAtCells row before
-      → SidesUp t row before sides x lefts ends early empty)
+      → SidesUp t row before sides x lefts hits)
       (begin held′ : ℕ) (never : Bool)
-      (pass : (x root : ℕ) (node : ℕ → Node) (reached : ℕ → Bool) (hits : ℕ → Bool → Bool) → PropertyRows t (bitOr booleans weaks) first held truth ends early empty x root node reached hits
-      → Passed first held x root node hits begin held′ never) where
-    up : SidesUp t (rowOf s) (s .kept .live) sides x lefts ends early empty
+      (pass : (x root : ℕ) (node : ℕ → Node) (reached : ℕ → Bool) (hit : ℕ → Bool → Bool) → PropertyRows t (bitOr booleans weaks) first (letter hits) x root node reached hit
+      → Passed first held x root node hit begin held′ never) where
+    up : SidesUp t (rowOf s) (s .kept .live) sides x lefts hits
     up = found (rowOf s) (s .kept .live) x (tableOf s .sound) rows-of-sides (λ n i f. s .represented .live-is n f) (s .in-place .live-cells)
 
     passed : Passed first held x root (nodeOf s) (hit (rowOf s) (tableOf s) (nodeOf s) root (s .kept) (s .time) x) begin held′ never
     passed = pass x root (nodeOf s) _ _
-        (property-rows t (s .counts) (s .subset) root booleans sides weaks (s .plan) (s .root-low) (s .kept) (s .in-place) (s .time) x truth right only ends early empty lefts up ends-over early-over empty-over
-        (s .root-proper) first held (s .first-is) (s .represented .held-is))
+        (property-rows t (s .counts) (s .subset) root booleans sides weaks (s .plan) (s .root-low) (s .kept) (s .in-place) (s .time) x (letter hits) right only lefts up over
+        (s .root-proper) first (s .first-is) (s .represented .held-is))
 
     module _ (a b : ℕ) (in-a : OnlyIn sides a) (in-b : OnlyIn sides b)
         (next : (row : ℕ → Row) (rows : Table row) (before : ℕ → Bool → Bool) (truth x : ℕ) (enter : ℕ → Bool) → SideRows t row booleans sides truth x → SideUsers t row sides

@@ -88,7 +88,7 @@ module _ (first was x root : ℕ) (node : ℕ → Node) (reached : ℕ → Bool)
     inside = f .inside;
   }
 
-  sofar-visit : {t : List ℕ} {truth empty n : ℕ} {s r : Stage} → Sofar (suc n) s → PropertyRow t truth empty x reached n (node n)
+  sofar-visit : {t : List ℕ} {l : Letter} {n : ℕ} {s r : Stage} → Sofar (suc n) s → PropertyRow t l x reached n (node n)
       → Does (node n) x n (bit was n) (hit n (s .begin n)) s r → Sofar n r
   sofar-visit {n = n} {s = s} {r = r} f row d = record {
     begins = λ m. pass-same node (bit was) hit x n (d .sent) m ∙ sym (pass-row node (bit was) hit x n (s .begin) m) ∙ f .begins m;
@@ -175,7 +175,7 @@ module _ (t : List ℕ) (leaves first : ℕ) (l : Letter) (x root : ℕ) (node :
     pub sofar : Sofar first (l .was) x root node reached hit from (stageOf p)
     pub left-is : (k : ℕ) → bit left k ≡ visited (p .begin) (l .was) (l .hits .ends) leaves k && ltb k from
 
-  module _ (rows : PropertyRows t leaves first (l .was) (l .truth) (l .hits .ends) (l .hits .early) (l .hits .empty) x root node reached hit) where
+  module _ (rows : PropertyRows t leaves first l x root node reached hit) where
     quiet-row : (s : Stage) (k : ℕ) → ((s .begin k || bit (l .was) k) || bit (l .hits .ends) k) && not (bit leaves k) ≡ false
         → QuietAt first (l .was) x root node reached hit s k
     quiet-row s k e = go (reached k) refl (bit leaves k) refl
@@ -242,7 +242,7 @@ module _ (t : List ℕ) (leaves first : ℕ) (l : Letter) (x root : ℕ) (node :
       pub under : n < g .from
       under = ltb-true n (g .from) (both .1)
 
-      row : PropertyRow t (l .truth) (l .hits .empty) x reached n (node n)
+      row : PropertyRow t l x reached n (node n)
       row = rows .row n (at .2) (at .1)
 
       done : Sofar first (l .was) x root node reached hit (suc n) s

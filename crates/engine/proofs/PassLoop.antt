@@ -31,7 +31,7 @@ pub record Loop (t : List ℕ) (leaves first : ℕ) (l : Letter) (p : Pass) (ahe
   pub no-leaf : (k : ℕ) → bit ahead k ≡ true → bit leaves k ≡ false
   pub left-is : (k : ℕ) → bit left k ≡ called (p .begin) (l .was) (l .hits .ends) k && bit ahead k
   pub goes : (x root : ℕ) (node : ℕ → Node) (reached : ℕ → Bool) (hit : ℕ → Bool → Bool)
-      → PropertyRows t leaves first (l .was) (l .truth) (l .hits .ends) (l .hits .early) (l .hits .empty) x root node reached hit → GoingAhead t leaves first l x root node reached hit p ahead left
+      → PropertyRows t leaves first l x root node reached hit → GoingAhead t leaves first l x root node reached hit p ahead left
 
 and-false : (b : Bool) → b && false ≡ false
 and-false true = refl
@@ -64,7 +64,7 @@ module _ {t : List ℕ} {leaves first : ℕ} {l : Letter} where
   }
     where
       start : (x root : ℕ) (node : ℕ → Node) (reached : ℕ → Bool) (hit : ℕ → Bool → Bool)
-          → PropertyRows t leaves first (l .was) (l .truth) (l .hits .ends) (l .hits .early) (l .hits .empty) x root node reached hit
+          → PropertyRows t leaves first l x root node reached hit
           → GoingAhead t leaves first l x root node reached hit (record { begin = first; held = 0; broken = false }) ahead left
       start x root node reached hit rows = record {
         going = going-start t leaves first l x root node reached hit rows left (λ k. is k ∙ same k (called first (l .was) (l .hits .ends) k) refl);
@@ -105,7 +105,7 @@ module _ {t : List ℕ} {leaves first : ℕ} {l : Letter} where
 
       module _ (r : Pass) (word : ℕ) (step : stageOf r ≡ visitAt t n l (stageOf p)) (is : (k : ℕ) → bit word k ≡ called (r .begin) (l .was) (l .hits .ends) k && bit rest k)
           (x root : ℕ) (node : ℕ → Node) (reached : ℕ → Bool) (hit : ℕ → Bool → Bool)
-          (rows : PropertyRows t leaves first (l .was) (l .truth) (l .hits .ends) (l .hits .early) (l .hits .empty) x root node reached hit) where
+          (rows : PropertyRows t leaves first l x root node reached hit) where
         abbrev g : GoingAhead t leaves first l x root node reached hit p ahead left
         g = loop .goes x root node reached hit rows
 
@@ -158,5 +158,5 @@ module _ {t : List ℕ} {leaves first : ℕ} {l : Letter} where
       }
 
   pub loop-end : {p : Pass} {ahead left : ℕ} → left ≡ 0 → Loop t leaves first l p ahead left → (x root : ℕ) (node : ℕ → Node) (reached : ℕ → Bool) (hit : ℕ → Bool → Bool)
-      → PropertyRows t leaves first (l .was) (l .truth) (l .hits .ends) (l .hits .early) (l .hits .empty) x root node reached hit → Passed first (l .was) x root node hit (p .begin) (p .held) (p .broken)
+      → PropertyRows t leaves first l x root node reached hit → Passed first (l .was) x root node hit (p .begin) (p .held) (p .broken)
   loop-end e loop x root node reached hit rows = going-end t leaves first l x root node reached hit rows (rw e at (loop .goes x root node reached hit rows .going))

@@ -13,10 +13,11 @@ use Rattle.lanes.specs.UpPass.{Part, cell-part, operand}
 use Rattle.lanes.specs.Ideal.{part-of, parts-right}
 use Rattle.table.specs.Laws.Numbers.{same?}
 use Rattle.words.specs.Bits.{bit-none}
-use Rattle.words.specs.Sets.{Lowest}
+use Rattle.words.specs.Sets.{Lowest, WithBit}
 use Rattle.words.specs.Walk.{Turn, rest-in, Left, left-start, left-turn, left-end}
 use Rattle.engine.specs.Reads.{kindOf, aOf, bOf}
 use Rattle.engine.specs.Sides.{one-if, sideCode, SideOperand, is-cell, is-row, SideRow, reads-then, reads-fuse, reads-alt, reads-star, reads-plus, reads-left, SideRows, LiveWords, LiveAtCells, firstPart, SidesUp, OverSides}
+use Rattle.engine.specs.declared.properties.Hits.{Hits}
 use Rattle.engine.specs.SideSteps.{has, SeenAt, PartOf, Upped}
 use Rattle.engine.proofs.SideLaws.{has-ends, has-early, has-empty}
 use Rattle.engine.proofs.SideRowLaws.{clash, cell-apart, operand-sequence, sequence-row, first-operand, with-bit-here, with-bit-else, Over, over-same, over-more, over-clear}
@@ -46,15 +47,16 @@ cells-turn truth parts {n = n} {v = v} s h turn e = left-turn h turn still here
     still k d = elim (same? k n) [ yes q ↦ rw q here | no z ↦ stored-else parts n v k _ (turn .small) refl z ∙ d ]
 
 -- What is safe at any rows: lengths, and which bits are set.
-pub record UpSafe (t : List ℕ) (sides left : ℕ) (parts lefts : List ℕ) (ends early empty : ℕ) : Type 0 where
+pub record UpSafe (t : List ℕ) (sides left : ℕ) (parts lefts : List ℕ) (hits : Hits) : Type 0 where
   pub parts-size : length parts ≡ 64
   pub lefts-size : length lefts ≡ 64
   pub left-in : (k : ℕ) → bit left k ≡ true → bit sides k ≡ true
-  pub ends-in : Over (λ k. 32 ≤ kindOf t k) sides left ends
-  pub early-in : Over (λ k. 32 ≤ kindOf t k) sides left early
-  pub empty-in : Over (λ k. 32 ≤ kindOf t k) sides left empty
+  pub ends-in : Over (λ k. 32 ≤ kindOf t k) sides left (hits .ends)
+  pub early-in : Over (λ k. 32 ≤ kindOf t k) sides left (hits .early)
+  pub empty-in : Over (λ k. 32 ≤ kindOf t k) sides left (hits .empty)
 
-pub up-safe-start : (t : List ℕ) (sides : ℕ) (parts lefts : List ℕ) → length parts ≡ 64 → length lefts ≡ 64 → UpSafe t sides sides parts lefts 0 0 0
+pub up-safe-start : (t : List ℕ) (sides : ℕ) (parts lefts : List ℕ) → length parts ≡ 64 → length lefts ≡ 64
+    → UpSafe t sides sides parts lefts (record { ends = 0; early = 0; empty = 0 })
 up-safe-start t sides parts lefts p q = record {
   parts-size = p;
   lefts-size = q;
@@ -68,15 +70,40 @@ pub over-sides : (t : List ℕ) (sides left word : ℕ) → Over (λ k. 32 ≤ k
 over-sides t sides left word o k e = let h = o k e in (h .0, h .2)
 
 -- one row
-module _ {t : List ℕ} {truth la lb sides left n rest : ℕ} {parts parts′ lefts lefts′ : List ℕ} {ends early empty ends′ early′ empty′ : ℕ}
-    (safe : UpSafe t sides left parts lefts ends early empty) (turn : Turn left n rest) (u : Upped t truth la lb parts parts′ lefts lefts′ n ends early empty ends′ early′ empty′) where
+module _ {t : List ℕ} {truth la lb sides left n rest : ℕ} {parts parts′ lefts lefts′ : List ℕ} {hits hits′ : Hits}
+    (safe : UpSafe t sides left parts lefts hits) (turn : Turn left n rest) (u : Upped t truth la lb parts parts′ lefts lefts′ n hits hits′) where
   here : bit sides n ≡ true
   here = safe .left-in n (turn .set)
 
   abbrev Kind : ℕ → Type 0
   Kind k = 32 ≤ kindOf t k
 
-  pub up-safe-turn : UpSafe t sides rest parts′ lefts′ ends′ early′ empty′
+  -- A word of the hits after row n: as it was, or with the row's flag where it stands over a left side.
+  abbrev Flagged : ℕ → ℕ → Bool → Type 0
+  Flagged word word′ on = (kindOf t n < 32 → word′ ≡ word) × (32 ≤ kindOf t n → WithBit word n on word′)
+
+  ends-flagged : Flagged (hits .ends) (hits′ .ends) (has 2 (u .first))
+  ends-flagged = (λ l. ap (λ (h : Hits). h .ends) (u .put .found .hits-same l), λ l. u .put .found .hit-is l .ends-on)
+
+  early-flagged : Flagged (hits .early) (hits′ .early) (has 1 (u .first))
+  early-flagged = (λ l. ap (λ (h : Hits). h .early) (u .put .found .hits-same l), λ l. u .put .found .hit-is l .early-on)
+
+  empty-flagged : Flagged (hits .empty) (hits′ .empty) (has 4 (u .first))
+  empty-flagged = (λ l. ap (λ (h : Hits). h .empty) (u .put .found .hits-same l), λ l. u .put .found .hit-is l .empty-on)
+
+  flagged-over : {word word′ : ℕ} {on : Bool} → Flagged word word′ on → Over Kind sides left word → Over Kind sides rest word′
+  flagged-over {word} {word′} f o = elim (decLt (kindOf t n) 32) [
+    | yes l ↦ rw (f .0 l) (over-same Kind sides turn word o)
+    | no l ↦ over-more Kind sides turn word word′ (f .1 (omega arith)) here (omega arith) o
+  ]
+
+  flagged-else : {word word′ : ℕ} {on : Bool} → Flagged word word′ on → (k : ℕ) → (k ≡ n → ⊥) → bit word′ k ≡ bit word k
+  flagged-else f k z = elim (decLt (kindOf t n) 32) [
+    | yes l ↦ ap (λ (w : ℕ). bit w k) (f .0 l)
+    | no l ↦ with-bit-else (f .1 (omega arith)) (turn .small) k z
+  ]
+
+  pub up-safe-turn : UpSafe t sides rest parts′ lefts′ hits′
   up-safe-turn = record {
     parts-size = elim (decLt (kindOf t n) 32) [
       | yes l ↦ stored-size parts (n % 64) _ parts′ (u .put .found .part-is l .2) (safe .parts-size)
@@ -84,18 +111,9 @@ module _ {t : List ℕ} {truth la lb sides left n rest : ℕ} {parts parts′ le
     ];
     lefts-size = stored-size lefts (n % 64) _ lefts′ (u .put .lefts-is) (safe .lefts-size);
     left-in = λ k e. safe .left-in k (rest-in turn k e .0);
-    ends-in = elim (decLt (kindOf t n) 32) [
-      | yes l ↦ rw (u .put .found .hits-same l .0) (over-same Kind sides turn ends (safe .ends-in))
-      | no l ↦ over-more Kind sides turn ends ends′ (u .put .found .hit-is (omega arith) .ends-on) here (omega arith) (safe .ends-in)
-    ];
-    early-in = elim (decLt (kindOf t n) 32) [
-      | yes l ↦ rw (u .put .found .hits-same l .1) (over-same Kind sides turn early (safe .early-in))
-      | no l ↦ over-more Kind sides turn early early′ (u .put .found .hit-is (omega arith) .early-on) here (omega arith) (safe .early-in)
-    ];
-    empty-in = elim (decLt (kindOf t n) 32) [
-      | yes l ↦ rw (u .put .found .hits-same l .2) (over-same Kind sides turn empty (safe .empty-in))
-      | no l ↦ over-more Kind sides turn empty empty′ (u .put .found .hit-is (omega arith) .empty-on) here (omega arith) (safe .empty-in)
-    ];
+    ends-in = flagged-over ends-flagged (safe .ends-in);
+    early-in = flagged-over early-flagged (safe .early-in);
+    empty-in = flagged-over empty-flagged (safe .empty-in);
   }
 
   parts-else : (k : ℕ) → (k ≡ n → ⊥) → getD parts′ k 0 ≡ getD parts k 0
@@ -107,23 +125,9 @@ module _ {t : List ℕ} {truth la lb sides left n rest : ℕ} {parts parts′ le
   lefts-else : (k : ℕ) → (k ≡ n → ⊥) → getD lefts′ k 0 ≡ getD lefts k 0
   lefts-else k z = stored-else lefts n _ k lefts′ (turn .small) (u .put .lefts-is) z
 
-  ends-else : (k : ℕ) → (k ≡ n → ⊥) → bit ends′ k ≡ bit ends k
-  ends-else k z = elim (decLt (kindOf t n) 32) [
-    | yes l ↦ ap (λ (w : ℕ). bit w k) (u .put .found .hits-same l .0)
-    | no l ↦ with-bit-else (u .put .found .hit-is (omega arith) .ends-on) (turn .small) k z
-  ]
-
-  early-else : (k : ℕ) → (k ≡ n → ⊥) → bit early′ k ≡ bit early k
-  early-else k z = elim (decLt (kindOf t n) 32) [
-    | yes l ↦ ap (λ (w : ℕ). bit w k) (u .put .found .hits-same l .1)
-    | no l ↦ with-bit-else (u .put .found .hit-is (omega arith) .early-on) (turn .small) k z
-  ]
-
-  empty-else : (k : ℕ) → (k ≡ n → ⊥) → bit empty′ k ≡ bit empty k
-  empty-else k z = elim (decLt (kindOf t n) 32) [
-    | yes l ↦ ap (λ (w : ℕ). bit w k) (u .put .found .hits-same l .2)
-    | no l ↦ with-bit-else (u .put .found .hit-is (omega arith) .empty-on) (turn .small) k z
-  ]
+  -- A row over a left side has its flag in the word.
+  flagged-here : {word word′ : ℕ} {on : Bool} → Flagged word word′ on → Over Kind sides left word → 32 ≤ kindOf t n → bit word′ n ≡ on
+  flagged-here {word} f o l = with-bit-here (f .1 l) (turn .small) (over-clear Kind sides turn word o)
 
 module _ (t : List ℕ) (row : ℕ → Row) (live : ℕ → Bool → Bool) (booleans sides truth x : ℕ) where
   abbrev part : ℕ → Part
@@ -136,22 +140,22 @@ module _ (t : List ℕ) (row : ℕ → Row) (live : ℕ → Bool → Bool) (bool
   second n = operand row live (sample x) part n true (bOf t n)
 
   -- the numbers and bits of row k
-  pub record RowFound (parts lefts : List ℕ) (ends early empty k : ℕ) : Type 0 where
+  pub record RowFound (parts lefts : List ℕ) (hits : Hits) (k : ℕ) : Type 0 where
     pub part-is : kindOf t k < 32 → getD parts k 0 ≡ sideCode (part k)
     pub left-is : getD lefts k 0 ≡ sideCode (first k)
-    pub ends-is : 32 ≤ kindOf t k → bit ends k ≡ first k .ends 7
-    pub early-is : 32 ≤ kindOf t k → bit early k ≡ first k .early
-    pub empty-is : 32 ≤ kindOf t k → bit empty k ≡ first k .empty
+    pub ends-is : 32 ≤ kindOf t k → bit (hits .ends) k ≡ first k .ends 7
+    pub early-is : 32 ≤ kindOf t k → bit (hits .early) k ≡ first k .early
+    pub empty-is : 32 ≤ kindOf t k → bit (hits .empty) k ≡ first k .empty
 
   -- the rows that are done, and the cells
-  pub record UpSofar (left : ℕ) (parts lefts : List ℕ) (ends early empty : ℕ) : Type 0 where
+  pub record UpSofar (left : ℕ) (parts lefts : List ℕ) (hits : Hits) : Type 0 where
     pub cells : (v : ℕ) (b : Boolean) → bit booleans v ≡ true → row v ≡ r-bool b → getD parts v 0 ≡ one-if (bit truth v) 1
-    pub rows : Left sides left (RowFound parts lefts ends early empty)
+    pub rows : Left sides left (RowFound parts lefts hits)
 
-  pub up-start : (parts lefts : List ℕ) (ends early empty : ℕ) → ((v : ℕ) → bit booleans v ≡ true → getD parts v 0 ≡ one-if (bit truth v) 1) → UpSofar sides parts lefts ends early empty
-  up-start parts lefts ends early empty h = record { cells = λ v b m e. h v m; rows = left-start sides }
+  pub up-start : (parts lefts : List ℕ) (hits : Hits) → ((v : ℕ) → bit booleans v ≡ true → getD parts v 0 ≡ one-if (bit truth v) 1) → UpSofar sides parts lefts hits
+  up-start parts lefts hits h = record { cells = λ v b m e. h v m; rows = left-start sides }
 
-  pub up-end : {parts lefts : List ℕ} {ends early empty : ℕ} → UpSofar 0 parts lefts ends early empty → SidesUp t row live sides x lefts ends early empty
+  pub up-end : {parts lefts : List ℕ} {hits : Hits} → UpSofar 0 parts lefts hits → SidesUp t row live sides x lefts hits
   up-end h = record {
     lefts-are = λ n s. left-end (h .rows) n s .left-is;
     ends-are = λ n s. left-end (h .rows) n s .ends-is;
@@ -160,9 +164,9 @@ module _ (t : List ℕ) (row : ℕ → Row) (live : ℕ → Bool → Bool) (bool
   }
 
   module _ (sound : Sound row) (all : SideRows t row booleans sides truth x) {la lb : ℕ} (words : LiveWords sides live la lb) (lit : LiveAtCells row live)
-      {left n rest : ℕ} {parts parts′ lefts lefts′ : List ℕ} {ends early empty ends′ early′ empty′ : ℕ}
-      (safe : UpSafe t sides left parts lefts ends early empty) (low : Lowest left n) (turn : Turn left n rest)
-      (u : Upped t truth la lb parts parts′ lefts lefts′ n ends early empty ends′ early′ empty′) (h : UpSofar left parts lefts ends early empty) where
+      {left n rest : ℕ} {parts parts′ lefts lefts′ : List ℕ} {hits hits′ : Hits}
+      (safe : UpSafe t sides left parts lefts hits) (low : Lowest left n) (turn : Turn left n rest)
+      (u : Upped t truth la lb parts parts′ lefts lefts′ n hits hits′) (h : UpSofar left parts lefts hits) where
     own : SideRow t row booleans sides truth x n
     own = all n (here safe turn u)
 
@@ -204,29 +208,29 @@ module _ (t : List ℕ) (row : ℕ → Row) (live : ℕ → Bool → Bool) (bool
         by (reads-plus k e a) = po .loop .plus-is k (first n) first-right ∙ ap sideCode (sym (rw e at (parts-right row live (sample x) sound n)))
         by (reads-left k m e a) = absurd (omega arith)
 
-    now-found : RowFound parts′ lefts′ ends′ early′ empty′ n
+    now-found : RowFound parts′ lefts′ hits′ n
     now-found = record {
       part-is = λ l. (let p = u .put .found .part-is l in stored parts n (p .0) parts′ (safe .parts-size) (turn .small) (p .2) ∙ part-right l (p .0) (p .1));
       left-is = stored lefts n (u .first) lefts′ (safe .lefts-size) (turn .small) (u .put .lefts-is) ∙ first-right;
-      ends-is = λ l. with-bit-here (u .put .found .hit-is l .ends-on) (turn .small) (over-clear (Kind safe turn u) sides turn ends (safe .ends-in)) ∙ ap (has 2) first-right ∙ has-ends (first n);
-      early-is = λ l. with-bit-here (u .put .found .hit-is l .early-on) (turn .small) (over-clear (Kind safe turn u) sides turn early (safe .early-in)) ∙ ap (has 1) first-right ∙ has-early (first n);
-      empty-is = λ l. with-bit-here (u .put .found .hit-is l .empty-on) (turn .small) (over-clear (Kind safe turn u) sides turn empty (safe .empty-in)) ∙ ap (has 4) first-right ∙ has-empty (first n);
+      ends-is = λ l. flagged-here safe turn u (ends-flagged safe turn u) (safe .ends-in) l ∙ ap (has 2) first-right ∙ has-ends (first n);
+      early-is = λ l. flagged-here safe turn u (early-flagged safe turn u) (safe .early-in) l ∙ ap (has 1) first-right ∙ has-early (first n);
+      empty-is = λ l. flagged-here safe turn u (empty-flagged safe turn u) (safe .empty-in) l ∙ ap (has 4) first-right ∙ has-empty (first n);
     }
 
-    still-found : (k : ℕ) → RowFound parts lefts ends early empty k → RowFound parts′ lefts′ ends′ early′ empty′ k
+    still-found : (k : ℕ) → RowFound parts lefts hits k → RowFound parts′ lefts′ hits′ k
     still-found k f = elim (same? k n) [
       | yes e ↦ rw e now-found
       | no z ↦ record {
         part-is = λ l. parts-else safe turn u k z ∙ f .part-is l;
         left-is = lefts-else safe turn u k z ∙ f .left-is;
-        ends-is = λ l. ends-else safe turn u k z ∙ f .ends-is l;
-        early-is = λ l. early-else safe turn u k z ∙ f .early-is l;
-        empty-is = λ l. empty-else safe turn u k z ∙ f .empty-is l;
+        ends-is = λ l. flagged-else safe turn u (ends-flagged safe turn u) k z ∙ f .ends-is l;
+        early-is = λ l. flagged-else safe turn u (early-flagged safe turn u) k z ∙ f .early-is l;
+        empty-is = λ l. flagged-else safe turn u (empty-flagged safe turn u) k z ∙ f .empty-is l;
       }
     ]
 
     -- ONE ROW UP
-    pub up-turn : UpSofar rest parts′ lefts′ ends′ early′ empty′
+    pub up-turn : UpSofar rest parts′ lefts′ hits′
     up-turn = record {
       cells = λ v b m e. parts-else safe turn u v (λ z. no-row b (ap row (sym z) ∙ e)) ∙ h .cells v b m e;
       rows = left-turn (h .rows) turn still-found now-found;

@@ -102,9 +102,9 @@ lower {v = v} k l o = ne-eqb k v (λ e. omega (arith, o .smaller))
 to : {reached : ℕ → Bool} {n v : ℕ} (k : ℕ) → eqb k v ≡ true → Operand reached n v → reached k ≡ true
 to {reached = reached} {v = v} k e o = ap reached (eqb-true k v e) ∙ o .is-reached
 
-module _ {t : List ℕ} {truth empty x : ℕ} {reached : ℕ → Bool} {n : ℕ} where
+module _ {t : List ℕ} {letter : Letter} {x : ℕ} {reached : ℕ → Bool} {n : ℕ} where
   -- it sends to smaller rows, which are reached
-  pub sends-lower : {nd : Node} → PropertyRow t truth empty x reached n nd → (now was hit : Bool) (k : ℕ) → n ≤ k → sends nd now was hit x k ≡ false
+  pub sends-lower : {nd : Node} → PropertyRow t letter x reached n nd → (now was hit : Bool) (k : ℕ) → n ≤ k → sends nd now was hit x k ≡ false
   sends-lower (reads-both e a b) now was hit k l = rw (lower k l a, lower k l b) (none now)
   sends-lower (reads-next e a) now was hit k l = rw (lower k l a) (none was)
   sends-lower (reads-if {b = b} e c p q) now was hit k l = rw (lower k l p, lower k l q, none (holds b x), none (not (holds b x))) (none now)
@@ -116,7 +116,7 @@ module _ {t : List ℕ} {truth empty x : ℕ} {reached : ℕ → Bool} {n : ℕ}
   sends-lower (reads-suffix-next {r = r} e a u p) now was hit k l = rw (lower k l p) (none (was || (now && nullable r)))
   sends-lower (reads-never e a) now was hit k l = refl
 
-  pub sends-reached : {nd : Node} → PropertyRow t truth empty x reached n nd → (now was hit : Bool) (k : ℕ) → sends nd now was hit x k ≡ true → reached k ≡ true
+  pub sends-reached : {nd : Node} → PropertyRow t letter x reached n nd → (now was hit : Bool) (k : ℕ) → sends nd now was hit x k ≡ true → reached k ≡ true
   sends-reached (reads-both e a b) now was hit k h = either (eqb k (aOf t n)) (eqb k (bOf t n)) (right now (eqb k (aOf t n) || eqb k (bOf t n)) h) (λ z. to k z a) (λ z. to k z b)
   sends-reached (reads-next e a) now was hit k h = to k (right was (eqb k (aOf t n)) h) a
   sends-reached (reads-if {b = b} e c p q) now was hit k h =
@@ -131,7 +131,7 @@ module _ {t : List ℕ} {truth empty x : ℕ} {reached : ℕ → Bool} {n : ℕ}
   sends-reached (reads-never e a) now was hit k h = clash h refl
 
   -- a row that neither begins nor was held, and whose left side does not end
-  pub idle-quiet : {nd : Node} → PropertyRow t truth empty x reached n nd → (hit : Bool) → (40 ≤ kindOf t n → hit ≡ false) → Quiet nd false false hit x
+  pub idle-quiet : {nd : Node} → PropertyRow t letter x reached n nd → (hit : Bool) → (40 ≤ kindOf t n → hit ≡ false) → Quiet nd false false hit x
   idle-quiet (reads-both e a b) hit h = record { no-sends = λ k. refl; no-keeps = refl; no-breaks = refl }
   idle-quiet (reads-next e a) hit h = record { no-sends = λ k. refl; no-keeps = refl; no-breaks = refl }
   idle-quiet (reads-if e c p q) hit h = record { no-sends = λ k. refl; no-keeps = refl; no-breaks = refl }
@@ -175,7 +175,7 @@ module _ (t : List ℕ) (l : Letter) (x n : ℕ) (reached : ℕ → Bool) (low :
   operand : {v : ℕ} → Operand reached n v → v % 64 ≡ v
   operand o = mod-eq-of-lt (omega (arith, o .smaller))
 
-  pub visit-does : {nd : Node} → PropertyRow t (l .truth) (l .hits .empty) x reached n nd → (bit (l .was) n ≡ true → Keeping nd)
+  pub visit-does : {nd : Node} → PropertyRow t l x reached n nd → (bit (l .was) n ≡ true → Keeping nd)
       → (40 ≤ kindOf t n → hit ≡ bit (l .hits .ends) n || ((bit (l .hits .early) n || bit (l .truth) (aOf t n)) && entered (use-of nd) (s .begin n) (bit (l .was) n)))
       → Does nd x n (bit (l .was) n) hit s (visitAt t n l s)
   unfolding visitAt plainAt branchAt guardAt laterAt lastsAt lastingAt leftAt owesAt runningAt matchedAt earlyAt begunAt keptAt pick

@@ -27,7 +27,8 @@ use Rattle.lanes.specs.Cycle.{hit, hit-by, left-empty}
 use Rattle.engine.specs.Reads.{kindOf, aOf, bOf}
 use Rattle.engine.specs.Planned.{Planned, OverLeft}
 use Rattle.engine.specs.Truths.{Truth, OnlyIn, BooleanRow, reads-true, reads-false, reads-signal, reads-not, reads-and, reads-or}
-use Rattle.engine.specs.Sides.{SidesUp, OverSides, firstPart}
+use Rattle.engine.specs.Sides.{SidesUp, OverSides, HitsOver, firstPart}
+use Rattle.engine.specs.declared.properties.Letter.{Letter}
 use Rattle.engine.specs.Properties.{Inert, inert-boolean, inert-weak, Keeping, PropertyRows}
 use Rattle.engine.specs.NodeView.{KindCase, a-boolean, a-sequence, k-weak, k-both, k-next, k-if, k-implies, k-or, k-always, k-until, k-suffix, k-suffix-next, k-never, case-of}
 use Rattle.engine.specs.PlanView as W
@@ -94,9 +95,8 @@ module _ (t : List ℕ) (c : Counts) (z : Subset t c) (root booleans sides weaks
       go true e = e
       go false e = absurd (not-inert (beyond t c z root booleans sides weaks p root-low n e) h)
 
-  module _ (k : Kept) (place : InPlace row node k) (time x truth : ℕ) (right : Truth booleans (booleanAt t) x truth) (only : OnlyIn booleans truth)
-      (ends early empty : ℕ) (lefts : List ℕ) (up : SidesUp t row (k .live) sides x lefts ends early empty) (ends-over : OverSides t sides ends) (early-over : OverSides t sides early)
-      (empty-over : OverSides t sides empty) where
+  module _ (k : Kept) (place : InPlace row node k) (time x : ℕ) (letter : Letter) (right : Truth booleans (booleanAt t) x (letter .truth))
+      (only : OnlyIn booleans (letter .truth)) (lefts : List ℕ) (up : SidesUp t row (k .live) sides x lefts (letter .hits)) (hits-over : HitsOver t sides (letter .hits)) where
     abbrev part : ℕ → Part
     part n = firstPart row (k .live) x n (aOf t n)
 
@@ -117,7 +117,7 @@ module _ (t : List ℕ) (c : Counts) (z : Subset t c) (root booleans sides weaks
 
     -- in the set: the words have what the upward pass found; not in it: the left side is a Boolean, which is never expected
     pub hits-are : (n : ℕ) → p .reached n ≡ true → OverLeft t n → (now : Bool)
-        → hit row rows node root k time x n now ≡ bit ends n || ((bit early n || bit truth (aOf t n)) && entered (M.use-of (node n)) now (k .held n))
+        → hit row rows node root k time x n now ≡ bit (letter .hits .ends) n || ((bit (letter .hits .early) n || bit (letter .truth) (aOf t n)) && entered (M.use-of (node n)) now (k .held n))
     hits-are n e o now = hit-part n e o now ∙ by (bit sides n) refl
       where
         on : Bool
@@ -128,12 +128,12 @@ module _ (t : List ℕ) (c : Counts) (z : Subset t c) (root booleans sides weaks
         or-no false = refl
 
         by : (s : Bool) → bit sides n ≡ s → part n .ends 7 || (part n .early && entered (M.use-of (node n)) now (k .held n))
-            ≡ bit ends n || ((bit early n || bit truth (aOf t n)) && entered (M.use-of (node n)) now (k .held n))
+            ≡ bit (letter .hits .ends) n || ((bit (letter .hits .early) n || bit (letter .truth) (aOf t n)) && entered (M.use-of (node n)) now (k .held n))
         by true s =
             let a = kind-high (aOf t n) (sym (p .left-in n e o) ∙ s) in
             let b : bit booleans (aOf t n) ≡ false = p .booleans-are (aOf t n) ∙ tells-no (tells-and (tells-value (p .reached (aOf t n))) (tells-lt (kindOf t (aOf t n)) 16)) (λ h. omega (arith, h .1)) in
             ap₂ (λ (x y : Bool). x || (y && entered (M.use-of (node n)) now (k .held n))) (sym (up .ends-are n s (omega (arith, o .from))))
-            (sym (up .early-are n s (omega (arith, o .from))) ∙ or-no (bit early n) ∙ ap (λ (x : Bool). bit early n || x) (sym (only (aOf t n) b)))
+            (sym (up .early-are n s (omega (arith, o .from))) ∙ or-no (bit (letter .hits .early) n) ∙ ap (λ (x : Bool). bit (letter .hits .early) n || x) (sym (only (aOf t n) b)))
         by false s =
             let l = kind-low (aOf t n) (sym (p .left-in n e o) ∙ s) in
             let r = left-operand n e o in
@@ -142,7 +142,7 @@ module _ (t : List ℕ) (c : Counts) (z : Subset t c) (root booleans sides weaks
             let d = place .left-dark n (aOf t n) false (row-left n e o) in
             ap₂ (λ (u : Part) (v : Bool). u .ends 7 || (u .early && entered (M.use-of (node n)) now (k .held n))) q d
             ∙ dark-cell (holds (booleanAt t (aOf t n)) x) (k .live n false) d
-            ∙ sym (ap₂ (λ (u v : Bool). u || ((v || bit truth (aOf t n)) && entered (M.use-of (node n)) now (k .held n))) (off n s ends ends-over) (off n s early early-over)
+            ∙ sym (ap₂ (λ (u v : Bool). u || ((v || bit (letter .truth) (aOf t n)) && entered (M.use-of (node n)) now (k .held n))) (off n s _ (hits-over .0)) (off n s _ (hits-over .1))
             ∙ ap (λ (v : Bool). v && entered (M.use-of (node n)) now (k .held n)) (right .inside (aOf t n) b))
           where
             dark-cell : (h l : Bool) → l ≡ false → cell-part h l .ends 7 || (cell-part h l .early && entered (M.use-of (node n)) now (k .held n)) ≡ h && entered (M.use-of (node n)) now (k .held n)
@@ -150,15 +150,15 @@ module _ (t : List ℕ) (c : Counts) (z : Subset t c) (root booleans sides weaks
             dark-cell false l d = refl
 
     -- whether a left side can be empty: a Boolean cannot
-    empties-are : (n : ℕ) → p .reached n ≡ true → OverLeft t n → bit empty n ≡ nullable (sequence-of row (aOf t n))
+    empties-are : (n : ℕ) → p .reached n ≡ true → OverLeft t n → bit (letter .hits .empty) n ≡ nullable (sequence-of row (aOf t n))
     empties-are n e o = by (bit sides n) refl ∙ left-empty row rows (k .live) (sample x) n (aOf t n) (row-left n e o)
       where
-        by : (s : Bool) → bit sides n ≡ s → bit empty n ≡ part n .empty
+        by : (s : Bool) → bit sides n ≡ s → bit (letter .hits .empty) n ≡ part n .empty
         by true s = up .empty-are n s (omega (arith, o .from))
         by false s =
             let r = left-operand n e o in
             let b = boolean-is t c z root booleans sides weaks p root-low (aOf t n) r (kind-low (aOf t n) (sym (p .left-in n e o) ∙ s)) in
-            off n s empty empty-over ∙ sym (ap (λ R. operand-by row (k .live) (sample x) (part-of row (k .live) (sample x)) R n false (aOf t n) .empty) (row-boolean (aOf t n) b r))
+            off n s _ (hits-over .2) ∙ sym (ap (λ R. operand-by row (k .live) (sample x) (part-of row (k .live) (sample x)) R n false (aOf t n) .empty) (row-boolean (aOf t n) b r))
 
     -- a row over a left side of the set is reached
     side-left : (n : ℕ) → bit sides n ≡ true → 32 ≤ kindOf t n → (p .reached n ≡ true) × OverLeft t n
@@ -185,9 +185,9 @@ module _ (t : List ℕ) (c : Counts) (z : Subset t c) (root booleans sides weaks
         high (k-suffix-next q) = omega arith
         high (k-never q) = omega arith
 
-    module _ (root-proper : Proper t c z root booleans sides weaks p root-low root) (first was : ℕ) (first-is : (n : ℕ) → bit first n ≡ eqb n root && eqb time 0)
-        (was-is : (n : ℕ) → bit was n ≡ k .held n) where
-      pub property-rows : PropertyRows t (bitOr booleans weaks) first was truth ends early empty x root node inside (hit row rows node root k time x)
+    module _ (root-proper : Proper t c z root booleans sides weaks p root-low root) (first : ℕ) (first-is : (n : ℕ) → bit first n ≡ eqb n root && eqb time 0)
+        (was-is : (n : ℕ) → bit (letter .was) n ≡ k .held n) where
+      pub property-rows : PropertyRows t (bitOr booleans weaks) first letter x root node inside (hit row rows node root k time x)
       property-rows = record {
         root-low = omega (arith, root-low, z .layout .nodes-range);
         up-to-root = λ n e. p .up-to-root n (proper-is t c z root booleans sides weaks p root-low n e .0);
@@ -195,10 +195,10 @@ module _ (t : List ℕ) (c : Counts) (z : Subset t c) (root booleans sides weaks
             rw (h .0) (is-proper t c z root booleans sides weaks p root-low root (p .root-reached) root-proper));
         was-in = λ n e. keeping-proper n (place .held-keeps n (sym (was-is n) ∙ e));
         was-kept = λ n e. place .held-keeps n (sym (was-is n) ∙ e);
-        ends-in = λ n e. (let h = ends-over n e in let s = side-left n (h .0) (h .1) in left-proper n (s .0) (s .1));
-        ends-over = λ n e. (let h = ends-over n e in let s = side-left n (h .0) (h .1) in s .1 .from);
+        ends-in = λ n e. (let h = hits-over .0 n e in let s = side-left n (h .0) (h .1) in left-proper n (s .0) (s .1));
+        ends-over = λ n e. (let h = hits-over .0 n e in let s = side-left n (h .0) (h .1) in s .1 .from);
         leaf = leaf t c z root booleans sides weaks p root-low;
         beyond = beyond t c z root booleans sides weaks p root-low;
-        row = property-row t c z root booleans sides weaks p root-low x truth right empty empties-are;
-        hits = λ n e l m now. (let o = over n e m in hits-are n (o .0) (o .1) now ∙ ap (λ (b : Bool). bit ends n || ((bit early n || bit truth (aOf t n)) && entered (M.use-of (node n)) now b)) (sym (was-is n)));
+        row = property-row t c z root booleans sides weaks p root-low x letter right empties-are;
+        hits = λ n e l m now. (let o = over n e m in hits-are n (o .0) (o .1) now ∙ ap (λ (b : Bool). bit (letter .hits .ends) n || ((bit (letter .hits .early) n || bit (letter .truth) (aOf t n)) && entered (M.use-of (node n)) now b)) (sym (was-is n)));
       }

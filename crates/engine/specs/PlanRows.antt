@@ -32,6 +32,7 @@ use Rattle.engine.specs.Reads.{kindOf, aOf, bOf, cOf}
 use Rattle.engine.specs.Planned.{Planned, OverLeft}
 use Rattle.engine.specs.Truths.{Truth, OnlyIn}
 use Rattle.engine.specs.Sides.{SidesUp, OverSides, firstPart}
+use Rattle.engine.specs.declared.properties.Letter.{Letter}
 use Rattle.engine.specs.Properties.{Inert, inert-boolean, inert-weak, Keeping, keeping-next, Operand, Condition, PropertyRow, reads-both, reads-next, reads-if, reads-implies, reads-or, reads-always, reads-until, reads-suffix, reads-suffix-next, reads-never, PropertyRows}
 use Rattle.engine.specs.NodeView.{KindCase, a-boolean, a-sequence, k-weak, k-both, k-next, k-if, k-implies, k-or, k-always, k-until, k-suffix, k-suffix-next, k-never, nodeBy, case-of, node-out, node-boolean, node-sequence}
 use Rattle.engine.specs.PlanView as W
@@ -104,9 +105,9 @@ module _ (t : List ℕ) (c : Counts) (z : Subset t c) (root booleans sides weaks
       (leaf-in n e)
 
   -- Of one sample x, with the truth of the Booleans.
-  module _ (x truth : ℕ) (true-word : Truth booleans (booleanAt t) x truth)
-      (empty : ℕ) (empties : (n : ℕ) → p .reached n ≡ true → OverLeft t n → bit empty n ≡ nullable (sequence-of row (aOf t n))) where
-    condition : (n : ℕ) (e : p .reached n ≡ true) (k : ℕ) (f : Field) → kindOf t n ≡ k → IsB (holdsIn (fieldsOf k) f) → Condition truth x (valueAt t n f) (booleanAt t (valueAt t n f))
+  module _ (x : ℕ) (letter : Letter) (true-word : Truth booleans (booleanAt t) x (letter .truth))
+      (empties : (n : ℕ) → p .reached n ≡ true → OverLeft t n → bit (letter .hits .empty) n ≡ nullable (sequence-of row (aOf t n))) where
+    condition : (n : ℕ) (e : p .reached n ≡ true) (k : ℕ) (f : Field) → kindOf t n ≡ k → IsB (holdsIn (fieldsOf k) f) → Condition (letter .truth) x (valueAt t n f) (booleanAt t (valueAt t n f))
     condition n e k f q i =
         let h = boolean-operand t c z root booleans sides weaks p root-low n e k f q i in
         record { low = omega (arith, h .0, low n e, z .layout .nodes-range); is = true-word .inside (valueAt t n f) (h .1) }
@@ -119,7 +120,7 @@ module _ (t : List ℕ) (c : Counts) (z : Subset t c) (root booleans sides weaks
     left-low : (n : ℕ) (e : p .reached n ≡ true) (k : ℕ) → kindOf t n ≡ k → IsOperand (holdsIn (fieldsOf k) field-a) → aOf t n < 64
     left-low n e k q i = omega (arith, Tree.falls t c z n (low n e) k field-a q i, low n e, z .layout .nodes-range)
 
-    pub property-row : (n : ℕ) → proper n ≡ true → bit leaves n ≡ false → PropertyRow t truth empty x proper n (node n)
+    pub property-row : (n : ℕ) → proper n ≡ true → bit leaves n ≡ false → PropertyRow t letter x proper n (node n)
     unfolding nodeBy fieldsOf takesOf pick
     property-row n ok no-leaf = here (case-of t c z (sequence-of row) (p .reached) low n e)
       where
@@ -129,13 +130,13 @@ module _ (t : List ℕ) (c : Counts) (z : Subset t c) (root booleans sides weaks
         not-leaf : (bit booleans n ≡ true) ⊎ (bit weaks n ≡ true) → ⊥
         not-leaf h = subst T (sym (in-leaf n h) ∙ no-leaf) tt
 
-        as-node : (k : ℕ) → kindOf t n ≡ k → {nd : Node} → node n ≡ nd → PropertyRow t truth empty x proper n nd → PropertyRow t truth empty x proper n (node n)
-        as-node k q w r = subst (PropertyRow t truth empty x proper n) (sym w) r
+        as-node : (k : ℕ) → kindOf t n ≡ k → {nd : Node} → node n ≡ nd → PropertyRow t letter x proper n nd → PropertyRow t letter x proper n (node n)
+        as-node k q w r = subst (PropertyRow t letter x proper n) (sym w) r
 
         at : (k : ℕ) → kindOf t n ≡ k → W.At t c z root booleans sides weaks p root-low k n
         at k q = W.at t c z root booleans sides weaks p root-low k n e q
 
-        here : KindCase (kindOf t n) → PropertyRow t truth empty x proper n (node n)
+        here : KindCase (kindOf t n) → PropertyRow t letter x proper n (node n)
         here (a-boolean l) = absurd (not-leaf (inl (boolean-is t c z root booleans sides weaks p root-low n e l)))
         here (a-sequence l m) = absurd (proper-is n ok .1 (l, omega arith))
         here (k-weak q) = absurd (not-leaf (inr (p .weak-in n e q)))

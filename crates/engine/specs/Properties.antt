@@ -13,6 +13,7 @@ use Rattle.psl.specs.Proof.Model.Pass.{pass}
 use Rattle.psl.specs.Proof.Model.Monitor.{use-of}
 use Rattle.lanes.specs.State.{entered}
 use Rattle.engine.specs.Reads.{kindOf, aOf, bOf, cOf, Held}
+use Rattle.engine.specs.declared.properties.Letter.{Letter}
 
 -- A node that neither sends nor keeps anything.
 pub data Inert : Node → Type 0 where
@@ -38,33 +39,33 @@ pub record Condition (truth x v : ℕ) (b : Boolean) : Type 0 where
   pub is : bit truth v ≡ holds b x
 
 -- Row n reads as the node.
-pub data PropertyRow (t : List ℕ) (truth empty x : ℕ) (reached : ℕ → Bool) (n : ℕ) : Node → Type 0 where
-  reads-both : kindOf t n ≡ 33 → Operand reached n (aOf t n) → Operand reached n (bOf t n) → PropertyRow t truth empty x reached n (n-both (aOf t n) (bOf t n))
-  reads-next : kindOf t n ≡ 34 → Operand reached n (aOf t n) → PropertyRow t truth empty x reached n (n-next (aOf t n))
-  reads-if : {b : Boolean} → kindOf t n ≡ 35 → Condition truth x (aOf t n) b → Operand reached n (bOf t n) → Operand reached n (cOf t n)
-      → PropertyRow t truth empty x reached n (n-if-else b (bOf t n) (cOf t n))
-  reads-implies : {b : Boolean} → kindOf t n ≡ 36 → Condition truth x (aOf t n) b → Operand reached n (bOf t n) → PropertyRow t truth empty x reached n (n-implies b (bOf t n))
-  reads-or : {b : Boolean} → kindOf t n ≡ 37 → Operand reached n (aOf t n) → Condition truth x (bOf t n) b → PropertyRow t truth empty x reached n (n-or (aOf t n) b)
-  reads-always : kindOf t n ≡ 38 → Operand reached n (aOf t n) → PropertyRow t truth empty x reached n (n-always (aOf t n))
-  reads-until : {b : Boolean} → kindOf t n ≡ 39 → Operand reached n (aOf t n) → Condition truth x (bOf t n) b → PropertyRow t truth empty x reached n (n-until (aOf t n) b)
-  reads-suffix : {r : Sequence} → kindOf t n ≡ 40 → aOf t n < 64 → Operand reached n (bOf t n) → PropertyRow t truth empty x reached n (n-suffix r (bOf t n))
-  reads-suffix-next : {r : Sequence} → kindOf t n ≡ 41 → aOf t n < 64 → bit empty n ≡ nullable r → Operand reached n (bOf t n) → PropertyRow t truth empty x reached n (n-suffix-next r (bOf t n))
-  reads-never : {r : Sequence} → kindOf t n ≡ 42 → aOf t n < 64 → PropertyRow t truth empty x reached n (n-never r)
+pub data PropertyRow (t : List ℕ) (l : Letter) (x : ℕ) (reached : ℕ → Bool) (n : ℕ) : Node → Type 0 where
+  reads-both : kindOf t n ≡ 33 → Operand reached n (aOf t n) → Operand reached n (bOf t n) → PropertyRow t l x reached n (n-both (aOf t n) (bOf t n))
+  reads-next : kindOf t n ≡ 34 → Operand reached n (aOf t n) → PropertyRow t l x reached n (n-next (aOf t n))
+  reads-if : {b : Boolean} → kindOf t n ≡ 35 → Condition (l .truth) x (aOf t n) b → Operand reached n (bOf t n) → Operand reached n (cOf t n)
+      → PropertyRow t l x reached n (n-if-else b (bOf t n) (cOf t n))
+  reads-implies : {b : Boolean} → kindOf t n ≡ 36 → Condition (l .truth) x (aOf t n) b → Operand reached n (bOf t n) → PropertyRow t l x reached n (n-implies b (bOf t n))
+  reads-or : {b : Boolean} → kindOf t n ≡ 37 → Operand reached n (aOf t n) → Condition (l .truth) x (bOf t n) b → PropertyRow t l x reached n (n-or (aOf t n) b)
+  reads-always : kindOf t n ≡ 38 → Operand reached n (aOf t n) → PropertyRow t l x reached n (n-always (aOf t n))
+  reads-until : {b : Boolean} → kindOf t n ≡ 39 → Operand reached n (aOf t n) → Condition (l .truth) x (bOf t n) b → PropertyRow t l x reached n (n-until (aOf t n) b)
+  reads-suffix : {r : Sequence} → kindOf t n ≡ 40 → aOf t n < 64 → Operand reached n (bOf t n) → PropertyRow t l x reached n (n-suffix r (bOf t n))
+  reads-suffix-next : {r : Sequence} → kindOf t n ≡ 41 → aOf t n < 64 → bit (l .hits .empty) n ≡ nullable r → Operand reached n (bOf t n) → PropertyRow t l x reached n (n-suffix-next r (bOf t n))
+  reads-never : {r : Sequence} → kindOf t n ≡ 42 → aOf t n < 64 → PropertyRow t l x reached n (n-never r)
 
 -- What the pass is told: the rows held before, the truth of the Booleans, and which left sides end, under way (ends) or at once (early), or can be empty.
-pub record PropertyRows (t : List ℕ) (leaves first was truth ends early empty x root : ℕ) (node : ℕ → Node) (reached : ℕ → Bool) (hit : ℕ → Bool → Bool) : Type 0 where
+pub record PropertyRows (t : List ℕ) (leaves first : ℕ) (l : Letter) (x root : ℕ) (node : ℕ → Node) (reached : ℕ → Bool) (hit : ℕ → Bool → Bool) : Type 0 where
   pub root-low : root < 64
   pub up-to-root : (n : ℕ) → reached n ≡ true → n ≤ root
   pub first-in : (n : ℕ) → bit first n ≡ true → reached n ≡ true
-  pub was-in : (n : ℕ) → bit was n ≡ true → reached n ≡ true
-  pub was-kept : (n : ℕ) → bit was n ≡ true → Keeping (node n)
-  pub ends-in : (n : ℕ) → bit ends n ≡ true → reached n ≡ true
-  pub ends-over : (n : ℕ) → bit ends n ≡ true → 40 ≤ kindOf t n
+  pub was-in : (n : ℕ) → bit (l .was) n ≡ true → reached n ≡ true
+  pub was-kept : (n : ℕ) → bit (l .was) n ≡ true → Keeping (node n)
+  pub ends-in : (n : ℕ) → bit (l .hits .ends) n ≡ true → reached n ≡ true
+  pub ends-over : (n : ℕ) → bit (l .hits .ends) n ≡ true → 40 ≤ kindOf t n
   pub leaf : (n : ℕ) → bit leaves n ≡ true → Inert (node n)
   pub beyond : (n : ℕ) → reached n ≡ false → Inert (node n)
-  pub row : (n : ℕ) → reached n ≡ true → bit leaves n ≡ false → PropertyRow t truth empty x reached n (node n)
+  pub row : (n : ℕ) → reached n ≡ true → bit leaves n ≡ false → PropertyRow t l x reached n (node n)
   pub hits : (n : ℕ) → reached n ≡ true → bit leaves n ≡ false → 40 ≤ kindOf t n → (now : Bool)
-      → hit n now ≡ bit ends n || ((bit early n || bit truth (aOf t n)) && entered (use-of (node n)) now (bit was n))
+      → hit n now ≡ bit (l .hits .ends) n || ((bit (l .hits .early) n || bit (l .truth) (aOf t n)) && entered (use-of (node n)) now (bit (l .was) n))
 
 -- The bytes hold each row that is visited first.
 abbrev pub Visits : List ℕ → ℕ → ℕ → ℕ → ℕ → Type 0

@@ -12,6 +12,7 @@ use Rattle.lanes.specs.Uses.{Use, then-use, fuse-use, alt-use, loop-use}
 use Rattle.words.specs.Sets.{WithBit}
 use Rattle.engine.specs.Reads.{kindOf, aOf, bOf}
 use Rattle.engine.specs.Sides.{one-if, sideCode, useCode}
+use Rattle.engine.specs.declared.properties.Hits.{Hits}
 
 -- A flag of a number is set.
 abbrev pub has : ℕ → ℕ → Bool
@@ -53,26 +54,26 @@ pub record PartOf (t : List ℕ) (truth word : ℕ) (parts : List ℕ) (n a r : 
   pub loop : Loop (kindOf t n) a r
 
 -- The left sides that end or can be empty, by the number a of the operand of row n.
-pub record Hit (n a ends early empty ends′ early′ empty′ : ℕ) : Type 0 where
-  pub ends-on : WithBit ends n (has 2 a) ends′
-  pub early-on : WithBit early n (has 1 a) early′
-  pub empty-on : WithBit empty n (has 4 a) empty′
+pub record Hit (n a : ℕ) (hits hits′ : Hits) : Type 0 where
+  pub ends-on : WithBit (hits .ends) n (has 2 a) (hits′ .ends)
+  pub early-on : WithBit (hits .early) n (has 1 a) (hits′ .early)
+  pub empty-on : WithBit (hits .empty) n (has 4 a) (hits′ .empty)
 
 -- Row n is found: what its first operand does, then its own part or that its left side ends.
-pub record Found (t : List ℕ) (truth word : ℕ) (parts parts′ : List ℕ) (n a ends early empty ends′ early′ empty′ : ℕ) : Type 0 where
+pub record Found (t : List ℕ) (truth word : ℕ) (parts parts′ : List ℕ) (n a : ℕ) (hits hits′ : Hits) : Type 0 where
   pub part-is : kindOf t n < 32 → (p : ℕ) × PartOf t truth word parts n a p × (parts′ ≡ set parts (n % 64) p)
-  pub hits-same : kindOf t n < 32 → (ends′ ≡ ends) × (early′ ≡ early) × (empty′ ≡ empty)
-  pub hit-is : 32 ≤ kindOf t n → Hit n a ends early empty ends′ early′ empty′
+  pub hits-same : kindOf t n < 32 → hits′ ≡ hits
+  pub hit-is : 32 ≤ kindOf t n → Hit n a hits hits′
   pub parts-same : 32 ≤ kindOf t n → parts′ ≡ parts
 
-pub record Put (t : List ℕ) (truth word : ℕ) (parts parts′ lefts lefts′ : List ℕ) (n a ends early empty ends′ early′ empty′ : ℕ) : Type 0 where
-  pub found : Found t truth word parts parts′ n a ends early empty ends′ early′ empty′
+pub record Put (t : List ℕ) (truth word : ℕ) (parts parts′ lefts lefts′ : List ℕ) (n a : ℕ) (hits hits′ : Hits) : Type 0 where
+  pub found : Found t truth word parts parts′ n a hits hits′
   pub lefts-is : lefts′ ≡ set lefts (n % 64) a
 
-pub record Upped (t : List ℕ) (truth live-a live-b : ℕ) (parts parts′ lefts lefts′ : List ℕ) (n ends early empty ends′ early′ empty′ : ℕ) : Type 0 where
+pub record Upped (t : List ℕ) (truth live-a live-b : ℕ) (parts parts′ lefts lefts′ : List ℕ) (n : ℕ) (hits hits′ : Hits) : Type 0 where
   pub first : ℕ
   pub seen : SeenAt parts truth live-a n (aOf t n) first
-  pub put : Put t truth live-b parts parts′ lefts lefts′ n first ends early empty ends′ early′ empty′
+  pub put : Put t truth live-b parts parts′ lefts lefts′ n first hits hits′
 
 -- ---- down the rows
 

@@ -11,6 +11,7 @@ use Rattle.lanes.specs.UpPass.{Part, operand}
 use Rattle.lanes.specs.Uses.{Use}
 use Rattle.lanes.specs.Ideal.{part-of, whole-work}
 use Rattle.engine.specs.Reads.{kindOf, aOf, bOf}
+use Rattle.engine.specs.declared.properties.Hits.{Hits}
 
 abbrev pub one-if : Bool → ℕ → ℕ
 one-if true n = n
@@ -69,15 +70,18 @@ abbrev pub LeftsFound : List ℕ → (ℕ → Row) → (ℕ → Bool → Bool) �
 LeftsFound t row live sides x lefts = (n : ℕ) → bit sides n ≡ true → getD lefts n 0 ≡ sideCode (firstPart row live x n (aOf t n))
 
 -- What the upward pass leaves: the first operand's number at each row of the set, the left sides that end, and those that can be empty.
-pub record SidesUp (t : List ℕ) (row : ℕ → Row) (live : ℕ → Bool → Bool) (sides x : ℕ) (lefts : List ℕ) (ends early empty : ℕ) : Type 0 where
+pub record SidesUp (t : List ℕ) (row : ℕ → Row) (live : ℕ → Bool → Bool) (sides x : ℕ) (lefts : List ℕ) (hits : Hits) : Type 0 where
   pub lefts-are : LeftsFound t row live sides x lefts
-  pub ends-are : (n : ℕ) → bit sides n ≡ true → 32 ≤ kindOf t n → bit ends n ≡ firstPart row live x n (aOf t n) .ends 7
-  pub early-are : (n : ℕ) → bit sides n ≡ true → 32 ≤ kindOf t n → bit early n ≡ firstPart row live x n (aOf t n) .early
-  pub empty-are : (n : ℕ) → bit sides n ≡ true → 32 ≤ kindOf t n → bit empty n ≡ firstPart row live x n (aOf t n) .empty
+  pub ends-are : (n : ℕ) → bit sides n ≡ true → 32 ≤ kindOf t n → bit (hits .ends) n ≡ firstPart row live x n (aOf t n) .ends 7
+  pub early-are : (n : ℕ) → bit sides n ≡ true → 32 ≤ kindOf t n → bit (hits .early) n ≡ firstPart row live x n (aOf t n) .early
+  pub empty-are : (n : ℕ) → bit sides n ≡ true → 32 ≤ kindOf t n → bit (hits .empty) n ≡ firstPart row live x n (aOf t n) .empty
 
 -- It sets bits only at the rows of the set that stand over a left side.
 abbrev pub OverSides : List ℕ → ℕ → ℕ → Type 0
 OverSides t sides word = (n : ℕ) → bit word n ≡ true → (bit sides n ≡ true) × (32 ≤ kindOf t n)
+
+abbrev pub HitsOver : List ℕ → ℕ → Hits → Type 0
+HitsOver t sides hits = OverSides t sides (hits .ends) × OverSides t sides (hits .early) × OverSides t sides (hits .empty)
 
 -- A left side is entered where its row begins; a never as long as it is held.
 pub record SidesEnter (t : List ℕ) (sides begin held : ℕ) (enter : ℕ → Bool) : Type 0 where

@@ -7,7 +7,7 @@ ghost use Rattle.lanes.specs.Rows.{Row, Sound};
 ghost use Rattle.lanes.specs.Expected.{Table};
 ghost use Rattle.engine.specs.Reads.{Within};
 ghost use Rattle.engine.specs.Truths.{OnlyIn};
-ghost use Rattle.engine.specs.Sides.{SideRows, SideUsers, LiveWords, LiveAtCells, LeftsFound, SidesUp, OverSides, SidesEnter, SidesDown};
+ghost use Rattle.engine.specs.Sides.{SideRows, SideUsers, LiveWords, LiveAtCells, LeftsFound, SidesUp, HitsOver, SidesEnter, SidesDown};
 ghost use Rattle.engine.specs.CycleWeaks.{WeaksLeft, WeaksTold};
 ghost use Rattle.engine.specs.Cycled.{Covered, Standing, Cycled};
 ghost use Rattle.engine.specs.Goes.{RightNext};
@@ -43,11 +43,11 @@ pub struct Outcome {
 // Which left sides and nevers end on the sample.
 fn ended(table: &[u8], plan: Plan, truth: u64, live: Live, lefts: &mut [u8; 64]) -> Hits
     requires { ⌜ Within (now table) (plan .sides) × (length (now lefts) ≡ 64) ⌝ }
-    ensures over { λ r. ⌜ OverSides (now (table .entry)) (plan .sides) (r .ends) × OverSides (now (table .entry)) (plan .sides) (r .early) × OverSides (now (table .entry)) (plan .sides) (r .empty) ⌝ }
+    ensures over { λ r. ⌜ HitsOver (now (table .entry)) (plan .sides) r ⌝ }
     ensures size { λ _. ⌜ length (now (lefts .exit)) ≡ 64 ⌝ }
     ensures found { λ r. ⌜ ((row : ℕ → Row) (before : ℕ → Bool → Bool) (x : ℕ) → Sound row → SideRows (now (table .entry)) row (plan .booleans) (plan .sides) truth x
         → LiveWords (plan .sides) before (live .a) (live .b) → LiveAtCells row before
-        → SidesUp (now (table .entry)) row before (plan .sides) x (now (lefts .exit)) (r .ends) (r .early) (r .empty)) ⌝ }
+        → SidesUp (now (table .entry)) row before (plan .sides) x (now (lefts .exit)) r) ⌝ }
 {
     if plan.sides == 0 {
         return Hits {

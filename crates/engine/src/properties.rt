@@ -204,7 +204,7 @@ fn visits(l: Letter, p: Pass, ahead: u64) -> u64
 pub(crate) fn downward(table: &[u8], first: u64, leaves: u64, l: Letter) -> Pass
     requires { ⌜ Visits (now table) leaves first (l .was) (l .hits .ends) ⌝ }
     ensures { λ r. ⌜ ((x root : ℕ) (node : ℕ → Node) (reached : ℕ → Bool) (hit : ℕ → Bool → Bool)
-        → PropertyRows (now (table .entry)) leaves first (l .was) (l .truth) (l .hits .ends) (l .hits .early) (l .hits .empty) x root node reached hit
+        → PropertyRows (now (table .entry)) leaves first l x root node reached hit
         → Passed first (l .was) x root node hit (r .begin) (r .held) (r .broken)) ⌝ }
 {
     let mut p = Pass {

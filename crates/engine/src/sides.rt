@@ -10,7 +10,7 @@ ghost use Rattle.lanes.specs.Expected.{Table};
 ghost use Rattle.lanes.specs.UpPass.{Part, then-part, fuse-part};
 ghost use Rattle.lanes.specs.Uses.{Use, ended-lanes};
 ghost use Rattle.engine.specs.Reads.{kindOf, bOf, Held, Within};
-ghost use Rattle.engine.specs.Sides.{one-if, sideCode, useCode, SideRows, SideUsers, LiveWords, LiveAtCells, LeftsFound, SidesUp, OverSides, SidesEnter, SidesDown};
+ghost use Rattle.engine.specs.Sides.{one-if, sideCode, useCode, SideRows, SideUsers, LiveWords, LiveAtCells, LeftsFound, SidesUp, HitsOver, SidesEnter, SidesDown};
 ghost use Rattle.engine.specs.SideSteps.{CellsFound, Seen, SeenAt, SecondOf, Pair, Loop, PartOf, Hit, Put, Upped, Right, Only, Handed, HandedTwo, PairDowned, Downed};
 ghost use Rattle.engine.specs.Truths.{OnlyIn};
 use crate::properties::Hits;
@@ -125,7 +125,7 @@ fn part(table: &[u8], n: u8, kind: u8, a: u8, live: u64, truth: u64, parts: &[u8
 }
 
 fn hit(hits: Hits, n: u8, a: u8) -> Hits
-    ensures { λ r. ⌜ Hit n a (hits .ends) (hits .early) (hits .empty) (r .ends) (r .early) (r .empty) ⌝ }
+    ensures { λ r. ⌜ Hit n a hits r ⌝ }
 {
     Hits {
         ends: words::with_bit(hits.ends, n, a & 2 != 0),
@@ -147,7 +147,7 @@ fn put(
 ) -> Hits
     requires { ⌜ Held (now table) n × (length (now parts) ≡ 64) × (length (now lefts) ≡ 64) ⌝ }
     ensures { λ r. ⌜ Put (now (table .entry)) truth live (now (parts .entry)) (now (parts .exit)) (now (lefts .entry)) (now (lefts .exit)) n a
-        (hits .ends) (hits .early) (hits .empty) (r .ends) (r .early) (r .empty) ⌝ }
+        hits r ⌝ }
 {
     let kind = rows::kind(table, n);
     let i = (n % 64) as usize;
@@ -176,7 +176,7 @@ fn up(
 ) -> Hits
     requires { ⌜ Held (now table) n × (length (now parts) ≡ 64) × (length (now lefts) ≡ 64) ⌝ }
     ensures { λ r. ⌜ Upped (now (table .entry)) truth (live .a) (live .b) (now (parts .entry)) (now (parts .exit)) (now (lefts .entry)) (now (lefts .exit)) n
-        (hits .ends) (hits .early) (hits .empty) (r .ends) (r .early) (r .empty) ⌝ }
+        hits r ⌝ }
 {
     let a = seen(rows::a(table, n), words::bit(live.a, n), truth, &*parts);
     put(table, n, a, live.b, truth, hits, &mut *parts, &mut *lefts)
@@ -192,11 +192,11 @@ pub(crate) fn upward(
     lefts: &mut [u8; 64],
 ) -> Hits
     requires { ⌜ Within (now table) sides × (length (now parts) ≡ 64) × (length (now lefts) ≡ 64) ⌝ }
-    ensures over { λ r. ⌜ OverSides (now (table .entry)) sides (r .ends) × OverSides (now (table .entry)) sides (r .early) × OverSides (now (table .entry)) sides (r .empty) ⌝ }
+    ensures over { λ r. ⌜ HitsOver (now (table .entry)) sides r ⌝ }
     ensures size { λ _. ⌜ length (now (lefts .exit)) ≡ 64 ⌝ }
     ensures found { λ r. ⌜ ((row : ℕ → Row) (before : ℕ → Bool → Bool) (x : ℕ) → Sound row → SideRows (now (table .entry)) row booleans sides truth x
         → LiveWords sides before (live .a) (live .b) → LiveAtCells row before
-        → SidesUp (now (table .entry)) row before sides x (now (lefts .exit)) (r .ends) (r .early) (r .empty)) ⌝ }
+        → SidesUp (now (table .entry)) row before sides x (now (lefts .exit)) r) ⌝ }
 {
     cells(booleans, truth, &mut *parts);
     let mut hits = Hits {

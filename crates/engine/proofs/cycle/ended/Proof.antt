@@ -4,7 +4,7 @@ use Rattle.engine.proofs.cycle.ended.Statement.{statement}
 use Rattle.engine.proofs.cycle.ended.Tie as tie
 
 returns : tie.Need-returns
-returns c = ((none-over _ _, none-over _ _, none-over _ _), (search needs, λ row before x sound rows words cells. none-up _ _ _ _ _ _ (c .if1 .taken)))
+returns c = ((none-over _ _, none-over _ _, none-over _ _), (search needs, λ row before x sound rows words cells. none-up _ _ _ _ _ _ _ (c .if1 .taken)))
 
 upward-requires : tie.Need-upward-requires
 upward-requires c κs = search needs

@@ -32,7 +32,7 @@ returns : tie.Need-returns
 returns c = λ s.
     let sides = c .before .before .before .before .before .before .before .before .before .before .ended .ensures in
     let live = c .before .before .before .before .before .before .entered .ensures in
-    passes-cycle s _ _ (c .before .before .before .before .before .before .before .before .before .before .before .before .truths .ensures .0) (c .before .before .before .before .before .before .before .before .before .before .before .before .truths .ensures .1) _ _ _ _ (sides .0 .0) (sides .0 .1) (sides .0 .2) (sides .1 .1) _ _ _ (c .before .before .before .before .before .before .before .before .downward .ensures)
+    passes-cycle s _ _ (c .before .before .before .before .before .before .before .before .before .before .before .before .truths .ensures .0) (c .before .before .before .before .before .before .before .before .before .before .before .before .truths .ensures .1) _ _ (sides .0) (sides .1 .1) _ _ _ (c .before .before .before .before .before .before .before .before .downward .ensures)
     _ _ (live .0 .0) (live .0 .1) (live .1) _ _ (c .before .before .before .before .moved .ensures) (search needs) (search needs) (search needs) (search needs) (c .before .before .before .fails .ensures) (c .is-quiet .ensures) (c .before .bit .ensures)
 
 pub passes-spec : {M : Type 1} → statement M

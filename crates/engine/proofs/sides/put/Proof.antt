@@ -22,7 +22,7 @@ element-write-parts c = search needs
 
 returns : tie.Need-returns
 returns c = record {
-  found = record { part-is = λ l. (_, then-found (omega arith) (c .then-row .ensures), refl); hits-same = λ l. (refl, refl, refl); hit-is = λ l. absurd (omega arith); parts-same = λ l. absurd (omega arith) };
+  found = record { part-is = λ l. (_, then-found (omega arith) (c .then-row .ensures), refl); hits-same = λ l. refl; hit-is = λ l. absurd (omega arith); parts-same = λ l. absurd (omega arith) };
   lefts-is = refl;
 }
 
@@ -43,7 +43,7 @@ element-write-parts-2 c = search needs
 
 returns-3 : tie.Need-returns-3
 returns-3 c = record {
-  found = record { part-is = λ l. (_, c .part .ensures, refl); hits-same = λ l. (refl, refl, refl); hit-is = λ l. absurd (omega arith); parts-same = λ l. absurd (omega arith) };
+  found = record { part-is = λ l. (_, c .part .ensures, refl); hits-same = λ l. refl; hit-is = λ l. absurd (omega arith); parts-same = λ l. absurd (omega arith) };
   lefts-is = refl;
 }
 

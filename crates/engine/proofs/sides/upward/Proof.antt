@@ -11,9 +11,9 @@ use Rattle.engine.proofs.sides.upward.Tie as tie
 
 abbrev Inv-loop : tie.InvT-loop
 Inv-loop table sides booleans truth live parts₀ lefts₀ hits₀ left₀ parts lefts hits left =
-    UpSafe table sides left parts lefts (hits .ends) (hits .early) (hits .empty)
+    UpSafe table sides left parts lefts hits
     × ((row : ℕ → Row) (before : ℕ → Bool → Bool) (x : ℕ) → Sound row → SideRows table row booleans sides truth x → LiveWords sides before (live .a) (live .b) → LiveAtCells row before
-    → UpSofar table row before booleans sides truth x left parts lefts (hits .ends) (hits .early) (hits .empty))
+    → UpSofar table row before booleans sides truth x left parts lefts hits)
 
 abbrev μ-loop : tie.MeasureT-loop
 μ-loop table sides booleans truth live parts₀ lefts₀ hits₀ left₀ parts lefts hits left = left
@@ -23,7 +23,7 @@ cells-requires c κs = search needs
 
 loop-holds : tie.Need-loop-holds Inv-loop μ-loop
 loop-holds c = let cells = c .cells .ensures in
-    (up-safe-start _ _ _ _ (cells .size) (c .before .before .before .pre .2), λ row before x sound all words lit. up-start _ row before _ _ _ x _ _ _ _ _ (cells .each))
+    (up-safe-start _ _ _ _ (cells .size) (c .before .before .before .pre .2), λ row before x sound all words lit. up-start _ row before _ _ _ x _ _ _ (cells .each))
 
 lowest-requires : tie.Need-lowest-requires Inv-loop μ-loop
 lowest-requires c κs = search needs
