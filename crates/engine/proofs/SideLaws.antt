@@ -52,44 +52,27 @@ use-code into go = one-if into 1 + one-if go 2
 abbrev doubled : ℕ → ℕ
 doubled x = x * 2 ^ 1 % 2 ^ 8
 
-pub has-ends : (x : Part) → has 2 (sideCode x) ≡ x .ends 7
-has-ends x = go (x .early) (x .ends 7) (x .empty)
-  where
-    go : (a b c : Bool) → has 2 (code a b c) ≡ b
-    go true true true = refl
-    go true true false = refl
-    go true false true = refl
-    go true false false = refl
-    go false true true = refl
-    go false true false = refl
-    go false false true = refl
-    go false false false = refl
+abbrev same : Bool → Bool → Bool
+same a b = (a && b) || not (a || b)
+
+same-equal : (a b : Bool) → T (same a b) → a ≡ b
+same-equal true true t = refl
+same-equal true false t = absurd t
+same-equal false true t = absurd t
+same-equal false false t = refl
+
+flag : (number : ℕ) (which : Bool → Bool → Bool → Bool) → T (both3 (λ a b c. same (has number (code a b c)) (which a b c))) → (x : Part)
+    → has number (sideCode x) ≡ which (x .early) (x .ends 7) (x .empty)
+flag number which t x = same-equal _ _ (every3 (λ a b c. same (has number (code a b c)) (which a b c)) t (x .early) (x .ends 7) (x .empty))
 
 pub has-early : (x : Part) → has 1 (sideCode x) ≡ x .early
-has-early x = go (x .early) (x .ends 7) (x .empty)
-  where
-    go : (a b c : Bool) → has 1 (code a b c) ≡ a
-    go true true true = refl
-    go true true false = refl
-    go true false true = refl
-    go true false false = refl
-    go false true true = refl
-    go false true false = refl
-    go false false true = refl
-    go false false false = refl
+has-early = flag 1 (λ a b c. a) tt
+
+pub has-ends : (x : Part) → has 2 (sideCode x) ≡ x .ends 7
+has-ends = flag 2 (λ a b c. b) tt
 
 pub has-empty : (x : Part) → has 4 (sideCode x) ≡ x .empty
-has-empty x = go (x .early) (x .ends 7) (x .empty)
-  where
-    go : (a b c : Bool) → has 4 (code a b c) ≡ c
-    go true true true = refl
-    go true true false = refl
-    go true false true = refl
-    go true false false = refl
-    go false true true = refl
-    go false true false = refl
-    go false false true = refl
-    go false false false = refl
+has-empty = flag 4 (λ a b c. c) tt
 
 pub has-go : (w : Use) → has 2 (useCode w) ≡ w .go 7
 has-go w = go (w .into 7) (w .go 7)
