@@ -1,14 +1,15 @@
 """tests/cases.py OUT: a folder OUT/NAME for each case, with table.bin, trace.bin and the verdicts that they must get.
 
-The document's own example, every refusal that a file can get, with its place and in its order, and the limits on both sides.
-What is expected is written here by hand, from document 01.
+The document's own example, every refusal that a file can get, with its place and in its order, the limits on both sides, and left sides that
+can be empty. What is expected is written here by hand, from document 01 and ticket 2.
 """
 import pathlib
 import sys
 
 OUT = pathlib.Path(sys.argv[1])
 
-SIGNAL, NOT, THEN, WEAK, ALWAYS, UNTIL, NEVER = 3, 4, 16, 32, 38, 39, 42
+SIGNAL, NOT, THEN, FUSE, ALT, STAR, PLUS = 3, 4, 16, 17, 18, 19, 20
+WEAK, ALWAYS, UNTIL, SUFFIX, SUFFIX_NEXT, NEVER = 32, 38, 39, 40, 41, 42
 
 
 def little(width, *numbers):
@@ -114,8 +115,29 @@ def limits():
     case("cells-7", chain(7), trace(1, [1] * 6), "refused 11 7")
 
 
+def left_sides():
+    """Seven properties over a, b, c: where the left side of |=> can be empty, its right side is owed from the first cycle."""
+    rows = [(SIGNAL, 0), (SIGNAL, 1), (SIGNAL, 2)]
+    rows += [(STAR, 0), (SUFFIX_NEXT, 3, 1)]  # {a[*]} |=> b
+    rows += [(STAR, 0), (STAR, 1), (THEN, 5, 6), (SUFFIX_NEXT, 7, 2)]  # {a[*] ; b[*]} |=> c
+    rows += [(STAR, 1), (ALT, 0, 9), (SUFFIX_NEXT, 10, 2)]  # {a | b[*]} |=> c
+    rows += [(STAR, 0), (PLUS, 12), (SUFFIX_NEXT, 13, 2)]  # {{a[*]}[+]} |=> c
+    rows += [(STAR, 0), (STAR, 1), (FUSE, 15, 16), (SUFFIX_NEXT, 17, 2)]  # {a[*] : b[*]} |=> c, which cannot be empty
+    rows += [(STAR, 0), (SUFFIX_NEXT, 19, 1), (ALWAYS, 20)]  # always ({a[*]} |=> b)
+    rows += [(STAR, 0), (SUFFIX, 22, 1)]  # {a[*]} |-> b, where only matches that are not empty count
+    seven = table(3, rows, [4, 8, 11, 14, 18, 21, 23])
+    for name, samples, verdicts in (
+        ("none", [], ["pending 0"] * 7),
+        ("nothing-on", [0], ["broken 1"] * 4 + ["settled 1", "broken 1", "settled 1"]),
+        ("abc-then-bc", [7, 6], ["settled 2", "pending 2", "pending 2", "settled 2", "pending 2", "pending 2", "settled 2"]),
+        ("abc-then-ac", [7, 5], ["broken 2", "pending 2", "settled 2", "pending 2", "pending 2", "broken 2", "broken 2"]),
+    ):
+        case(f"left-sides-{name}", seven, trace(3, samples), f"cycles {len(samples)}", *(f"{i} {verdict}" for i, verdict in enumerate(verdicts)))
+
+
 document()
 refused_headers()
 refused_rows()
 refused_traces()
 limits()
+left_sides()
