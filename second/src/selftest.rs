@@ -139,7 +139,8 @@ fn no_longer_run_of_t_is_needed(random: &mut Random) -> Result<(), String> {
     let mut maker = tables::Maker::new(random, 3);
     let size = maker.random.between(1, 7);
     let sequence = maker.sequence(size, 8);
-    let root = maker.draft.push([42, sequence, 0, 0]);
+    let row = maker.random.pick(&[[41, sequence, 0, 0], [42, sequence, 0, 0]]);
+    let root = maker.draft.push(row);
     maker.root(root);
     let draft = maker.finish();
     let table = table::check(&draft.bytes()).map_err(|refusal| format!("{:?}", refusal))?;
@@ -149,7 +150,7 @@ fn no_longer_run_of_t_is_needed(random: &mut Random) -> Result<(), String> {
         .into_iter()
         .map(|sample| tree::satisfied(&table, sample))
         .collect();
-    if let PropertyForm::Never(r) = &tree.root.form {
+    if let PropertyForm::Overlapping(r, _) | PropertyForm::Never(r) = &tree.root.form {
         let most = tree::cells(r) + 10;
         let mut word = Word::new(&samples, most, tree.slots);
         let completed = (1..=most).any(|m| word.matches(r, 0, samples.len() + m));
