@@ -2,7 +2,7 @@
 //! and with what holds of the definitions at random.
 
 use crate::draft::Draft;
-use crate::fixed::{self, RUNS};
+use crate::fixed;
 use crate::judge;
 use crate::properties::Reading;
 use crate::random::Random;
@@ -48,7 +48,7 @@ pub fn run() -> Result<(), String> {
 }
 
 fn small_runs() -> Result<(), String> {
-    for run in &RUNS {
+    for run in fixed::runs() {
         let case = fixed::judged_run(run);
         let found = judge::judge(&case.table, &case.trace, 0);
         expect(&format!("{} on {:?}", run.0, run.2), found, Ok(run.3))?;
