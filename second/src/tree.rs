@@ -60,6 +60,13 @@ pub fn read(table: &Table, property: usize) -> Tree {
     Tree { root, slots: reader.slots, most_cells: reader.most_cells }
 }
 
+/// The sequence at a node by itself, with the number of slots it has.
+pub fn read_sequence(table: &Table, node: usize) -> (Sequence, usize) {
+    let mut reader = Reader { table, slots: 0, most_cells: 0 };
+    let r = reader.sequence(node);
+    (r, reader.slots)
+}
+
 impl Reader<'_> {
     fn slot(&mut self) -> usize {
         self.slots += 1;
