@@ -8,6 +8,7 @@ mod damage_trace;
 mod draft;
 mod fixed;
 mod judge;
+mod left_sides;
 mod monitors;
 mod properties;
 mod random;
