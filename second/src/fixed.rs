@@ -278,8 +278,10 @@ pub fn fixed(random: &mut Random, vectors: &mut Vectors) {
     for at in PLACES {
         vectors.record_stray(&place(at));
     }
-    cases::cases(random, vectors, 100, 100);
+    // The runs count as verdicts and as steps, and the random cases come on top of them.
+    let (verdicts, steps) = (vectors.verdicts() + 70, vectors.of_kind[STEPS as usize] + 30);
+    cases::cases(random, vectors, verdicts, 100);
     cases::checks(random, vectors, 200);
-    monitors::steps(random, vectors, 60);
+    monitors::steps(random, vectors, steps);
     monitors::strays(random, vectors, 60);
 }
