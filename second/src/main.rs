@@ -7,6 +7,7 @@ mod damage;
 mod damage_trace;
 mod draft;
 mod fixed;
+mod following;
 mod judge;
 mod left_sides;
 mod monitors;
