@@ -8,7 +8,7 @@ use crate::random::Random;
 use crate::table::{self, Table, MOST_NODES, MOST_PROPERTIES, MOST_SIGNALS};
 use crate::trace::{samples_in, MOST_CYCLES};
 use crate::vectors::{refusal_number, Case, Vectors};
-use crate::{tables, traces};
+use crate::{left_sides, tables, traces};
 
 const REFUSALS: [usize; 14] = [1, 2, 3, 4, 5, 6, 7, 8, 9, 10, 11, 12, 13, 15];
 const TABLE_REFUSALS: usize = 11;
@@ -20,9 +20,10 @@ const LARGE: usize = 2_000;
 
 /// A valid table, with the most samples that are fast to read with it.
 pub fn valid_table(random: &mut Random) -> (Draft, usize) {
-    match random.below(46) {
+    match random.below(52) {
         40 | 41 => (tables::crowded(random), 16),
         42..=45 => (tables::pipelined(random), 40),
+        46..=51 => (left_sides::owed_at_once(random), 24),
         0..=11 => (tables::ordinary(random), 20),
         12..=21 => (tables::framed(random), 24),
         22..=28 => (tables::overlapping(random), 40),

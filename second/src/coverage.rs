@@ -1,9 +1,12 @@
 //! Decides what is counted of the tables and traces in a file, so that whoever runs it sees what
-//! was tried: the kinds that the judged properties reach, and the sizes.
+//! was tried: the kinds that the judged properties reach, left sides that match the empty word,
+//! and the sizes.
 
+use crate::sequences::Word;
 use crate::table::{self, operands, Table, MOST_NODES};
 use crate::trace::{samples_in, MOST_CYCLES};
-use crate::vectors::{counts, Case, CHECK, STATE, STRAY};
+use crate::tree;
+use crate::vectors::{counts, last_verdict, Case, CHECK, STATE, STRAY};
 use std::collections::{BTreeMap, BTreeSet};
 
 const LARGEST_TABLE: usize = 288;
@@ -13,6 +16,8 @@ const VERY_LONG: usize = 1000;
 #[derive(Default)]
 pub struct Coverage {
     of_kind: BTreeMap<usize, usize>,
+    /// Properties with an empty left side of |=>: broken, settled, pending.
+    empty_left: [usize; 3],
     full: usize,
     shared: usize,
     no_cycle: usize,
@@ -25,7 +30,7 @@ pub struct Coverage {
 }
 
 impl Coverage {
-    pub fn count(&mut self, case: &Case) {
+    pub fn count(&mut self, case: &Case, answers: &[u64]) {
         self.largest += (case.table.len() == LARGEST_TABLE) as usize;
         self.too_large += (case.table.len() == LARGEST_TABLE + 1) as usize;
         if [CHECK, STATE, STRAY].contains(&case.kind) {
@@ -34,23 +39,19 @@ impl Coverage {
         let cycles = samples_in(&case.trace).len();
         self.too_long += (cycles == MOST_CYCLES + 1) as usize;
         if let Ok(table) = table::check(&case.table) {
-            if (case.property as usize) < table.roots.len() {
-                self.count_property(&table, case.property as usize, cycles);
+            if let Some(&root) = table.roots.get(case.property as usize) {
+                let uses = uses(&table, root);
+                self.count_property(&table, &uses, cycles);
+                // A refused trace has no verdict.
+                if answers[0] >> 32 != 0 && has_empty_left(&table, &uses) {
+                    self.empty_left[(last_verdict(answers) >> 32) as usize - 1] += 1;
+                }
             }
         }
     }
 
-    fn count_property(&mut self, table: &Table, property: usize, cycles: usize) {
-        let mut uses = vec![0; table.rows.len()];
-        let mut open = vec![table.roots[property]];
-        while let Some(node) = open.pop() {
-            uses[node] += 1;
-            if uses[node] == 1 {
-                open.extend(operands(table.rows[node]));
-            }
-        }
-        let reached = (0..uses.len()).filter(|&node| uses[node] > 0);
-        let kinds: BTreeSet<u8> = reached.map(|node| table.rows[node][0]).collect();
+    fn count_property(&mut self, table: &Table, uses: &[usize], cycles: usize) {
+        let kinds: BTreeSet<u8> = reached(uses).map(|node| table.rows[node][0]).collect();
         for kind in kinds {
             *self.of_kind.entry(kind as usize).or_insert(0) += 1;
         }
@@ -64,7 +65,10 @@ impl Coverage {
 
     pub fn lines(&self) -> String {
         let mut text = counts("kinds", self.of_kind.iter().map(|(&kind, &count)| (kind, count)));
+        let of_verdict = (1..).zip(self.empty_left);
+        text += &counts("empty left sides of |=> by verdict", of_verdict);
         for (name, count) in [
+            ("empty left sides of |=>", self.empty_left.iter().sum()),
             ("shared Booleans", self.shared),
             ("tables of 64 nodes", self.full),
             ("tables of 288 bytes", self.largest),
@@ -79,4 +83,29 @@ impl Coverage {
         }
         text
     }
+}
+
+/// How often the property at a root uses each node.
+fn uses(table: &Table, root: usize) -> Vec<usize> {
+    let mut uses = vec![0; table.rows.len()];
+    let mut open = vec![root];
+    while let Some(node) = open.pop() {
+        uses[node] += 1;
+        if uses[node] == 1 {
+            open.extend(operands(table.rows[node]));
+        }
+    }
+    uses
+}
+
+fn reached(uses: &[usize]) -> impl Iterator<Item = usize> + '_ {
+    (0..uses.len()).filter(|&node| uses[node] > 0)
+}
+
+/// Whether the left side of some |=> that is used matches the word of no letters.
+fn has_empty_left(table: &Table, uses: &[usize]) -> bool {
+    reached(uses).filter(|&node| table.rows[node][0] == 41).any(|node| {
+        let (r, slots) = tree::read_sequence(table, table.rows[node][1] as usize);
+        Word::new(&[], 0, slots).matches(&r, 0, 0)
+    })
 }

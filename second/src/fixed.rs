@@ -1,5 +1,6 @@
-//! Decides the cases of the fixed file: the small runs of the document, opening refused for each
-//! reason, the count limit and verdicts already given, and some random cases.
+//! Decides the cases of the fixed file: the small runs of the document and more about left sides,
+//! opening refused for each reason, the count limit and verdicts already given, and some random
+//! cases.
 
 use crate::draft::Draft;
 use crate::properties::Verdict;
@@ -10,9 +11,12 @@ use crate::{cases, monitors, traces};
 use Verdict::{Broken, Pending, Settled};
 
 /// Nodes 0, 1, 2 are a, b, c and node 3 is false; the rows given follow, the last is the root.
-pub type Run = (&'static str, &'static [[u8; 4]], &'static [u32], Verdict);
+type Rows = &'static [[u8; 4]];
+pub type Run = (&'static str, Rows, &'static [u32], Verdict);
+/// One property on several traces.
+type Runs = (&'static str, Rows, &'static [(&'static [u32], Verdict)]);
 
-pub const RUNS: [Run; 16] = [
+const RUNS: [Run; 16] = [
     ("always a", &[[38, 0, 0, 0]], &[1, 1, 0], Broken(3)),
     ("always a", &[[38, 0, 0, 0]], &[1, 1], Pending(2)),
     ("next b", &[[34, 1, 0, 0]], &[1], Pending(1)),
@@ -26,7 +30,7 @@ pub const RUNS: [Run; 16] = [
     ("weak {a;false}", &[[16, 0, 3, 0], [32, 4, 0, 0]], &[1], Pending(1)),
     ("{a;b} |-> c", &[[16, 0, 1, 0], [40, 4, 2, 0]], &[0], Settled(1)),
     ("{a;b} |=> c", &[[16, 0, 1, 0], [41, 4, 2, 0]], &[1, 2, 0], Broken(3)),
-    ("{a[*]} |=> b", &[[19, 0, 0, 0], [41, 4, 1, 0]], &[0], Settled(1)),
+    ("{a[*]} |=> b", &[[19, 0, 0, 0], [41, 4, 1, 0]], &[0], Broken(1)),
     ("never {a;b}", &[[16, 0, 1, 0], [42, 4, 0, 0]], &[1, 1, 2], Broken(3)),
     (
         "always ({a} |=> weak {b;c})",
@@ -36,8 +40,195 @@ pub const RUNS: [Run; 16] = [
     ),
 ];
 
+/// Where a left side of |=> matches the empty word, its right side is owed at once; and where
+/// it matches the whole list, nothing is settled yet. Not so with |-> and with a : b.
+const LEFT_SIDES: [Runs; 21] = [
+    (
+        "{a[*]} |=> b",
+        &[[19, 0, 0, 0], [41, 4, 1, 0]],
+        &[(&[2], Settled(1)), (&[3], Pending(1)), (&[3, 0], Broken(2)), (&[3, 2], Settled(2))],
+    ),
+    (
+        "{a[*]} |=> c",
+        &[[19, 0, 0, 0], [41, 4, 2, 0]],
+        &[(&[5, 4], Settled(2)), (&[5, 5], Pending(2)), (&[5, 5, 1], Broken(3))],
+    ),
+    (
+        "{a} |=> b",
+        &[[41, 0, 1, 0]],
+        &[(&[1], Pending(1)), (&[1, 2], Settled(2)), (&[0], Settled(1))],
+    ),
+    (
+        "{a[*];b[*]} |=> c",
+        &[[19, 0, 0, 0], [19, 1, 0, 0], [16, 4, 5, 0], [41, 6, 2, 0]],
+        &[
+            (&[0], Broken(1)),
+            (&[4], Settled(1)),
+            (&[5, 6, 5], Settled(3)),
+            (&[5, 6, 1], Broken(3)),
+            (&[6, 5], Settled(2)),
+            (&[5, 6], Pending(2)),
+        ],
+    ),
+    (
+        "{a|b[*]} |=> c",
+        &[[19, 1, 0, 0], [18, 0, 4, 0], [41, 5, 2, 0]],
+        &[
+            (&[0], Broken(1)),
+            (&[5], Pending(1)),
+            (&[5, 4], Settled(2)),
+            (&[5, 0], Broken(2)),
+            (&[6, 6, 0], Broken(3)),
+            (&[4], Settled(1)),
+        ],
+    ),
+    (
+        "{{a[*]}[+]} |=> c",
+        &[[19, 0, 0, 0], [20, 4, 0, 0], [41, 5, 2, 0]],
+        &[(&[0], Broken(1)), (&[4], Settled(1)), (&[5, 5, 4], Settled(3)), (&[5, 2], Broken(2))],
+    ),
+    (
+        "{a[*]:b[*]} |=> c",
+        &[[19, 0, 0, 0], [19, 1, 0, 0], [17, 4, 5, 0], [41, 6, 2, 0]],
+        &[
+            (&[0], Settled(1)),
+            (&[1], Pending(1)),
+            (&[1, 0], Settled(2)),
+            (&[3], Pending(1)),
+            (&[3, 0], Broken(2)),
+            (&[3, 4], Settled(2)),
+        ],
+    ),
+    (
+        "always ({a[*]} |=> b)",
+        &[[19, 0, 0, 0], [41, 4, 1, 0], [38, 5, 0, 0]],
+        &[(&[2, 0], Broken(2)), (&[2, 3, 2], Pending(3)), (&[2, 3, 1], Broken(3))],
+    ),
+    (
+        "next ({a[*]} |=> b)",
+        &[[19, 0, 0, 0], [41, 4, 1, 0], [34, 5, 0, 0]],
+        &[
+            (&[0], Pending(1)),
+            (&[2, 0], Broken(2)),
+            (&[0, 2], Settled(2)),
+            (&[0, 3], Pending(2)),
+            (&[0, 3, 0], Broken(3)),
+        ],
+    ),
+    (
+        "({a[*]} |=> b) until c",
+        &[[19, 0, 0, 0], [41, 4, 1, 0], [39, 5, 2, 0]],
+        &[
+            (&[0], Broken(1)),
+            (&[4], Settled(1)),
+            (&[2, 0], Broken(2)),
+            (&[2, 4], Settled(2)),
+            (&[3, 4], Broken(2)),
+            (&[3, 7], Pending(2)),
+            (&[3, 7, 2], Settled(3)),
+        ],
+    ),
+    (
+        "if a then ({a[*]} |=> b) else ({b[*]} |=> c)",
+        &[[19, 0, 0, 0], [41, 4, 1, 0], [19, 1, 0, 0], [41, 6, 2, 0], [35, 0, 5, 7]],
+        &[
+            (&[1], Broken(1)),
+            (&[0], Broken(1)),
+            (&[3, 2], Settled(2)),
+            (&[4], Settled(1)),
+            (&[6, 2], Broken(2)),
+            (&[6, 6], Pending(2)),
+        ],
+    ),
+    (
+        "both ({a[*]} |=> b) ({b[*]} |=> c)",
+        &[[19, 0, 0, 0], [41, 4, 1, 0], [19, 1, 0, 0], [41, 6, 2, 0], [33, 5, 7, 0]],
+        &[
+            (&[2], Broken(1)),
+            (&[6], Pending(1)),
+            (&[6, 4], Settled(2)),
+            (&[7, 4], Broken(2)),
+            (&[7, 6, 4], Settled(3)),
+        ],
+    ),
+    (
+        "{c} |-> ({a[*]} |=> b)",
+        &[[19, 0, 0, 0], [41, 4, 1, 0], [40, 2, 5, 0]],
+        &[(&[0], Settled(1)), (&[4], Broken(1)), (&[6], Settled(1)), (&[7, 0], Broken(2))],
+    ),
+    (
+        "{c} |=> ({a[*]} |=> b)",
+        &[[19, 0, 0, 0], [41, 4, 1, 0], [41, 2, 5, 0]],
+        &[
+            (&[4], Pending(1)),
+            (&[4, 0], Broken(2)),
+            (&[4, 2], Settled(2)),
+            (&[4, 3, 2], Settled(3)),
+        ],
+    ),
+    (
+        "{c[*]} |=> ({a[*]} |=> b)",
+        &[[19, 0, 0, 0], [41, 4, 1, 0], [19, 2, 0, 0], [41, 6, 5, 0]],
+        &[
+            (&[0], Broken(1)),
+            (&[6], Pending(1)),
+            (&[6, 2], Settled(2)),
+            (&[6, 0], Broken(2)),
+            (&[7, 6, 2], Settled(3)),
+        ],
+    ),
+    (
+        "{a[*]} |-> b",
+        &[[19, 0, 0, 0], [40, 4, 1, 0]],
+        &[(&[0], Settled(1)), (&[1], Broken(1)), (&[3], Pending(1)), (&[3, 0], Settled(2))],
+    ),
+    (
+        "{a[*]} |=> weak {b;c}",
+        &[[19, 0, 0, 0], [16, 1, 2, 0], [32, 5, 0, 0], [41, 4, 6, 0]],
+        &[
+            (&[0], Broken(1)),
+            (&[2, 4], Settled(2)),
+            (&[3, 6, 4], Settled(3)),
+            (&[3, 6, 0], Broken(3)),
+        ],
+    ),
+    (
+        "always ({a[*]} |=> weak {b;c})",
+        &[[19, 0, 0, 0], [16, 1, 2, 0], [32, 5, 0, 0], [41, 4, 6, 0], [38, 7, 0, 0]],
+        &[(&[2, 6, 4], Broken(3)), (&[2, 6, 6], Pending(3))],
+    ),
+    (
+        "a -> ({b[*]} |=> c)",
+        &[[19, 1, 0, 0], [41, 4, 2, 0], [36, 0, 5, 0]],
+        &[(&[1], Broken(1)), (&[0], Settled(1)), (&[7, 4], Settled(2))],
+    ),
+    (
+        "({a[*]} |=> b) or c",
+        &[[19, 0, 0, 0], [41, 4, 1, 0], [37, 5, 2, 0]],
+        &[(&[0], Broken(1)), (&[4], Settled(1)), (&[3, 4], Broken(2))],
+    ),
+    (
+        "{a[*]} |=> next b",
+        &[[19, 0, 0, 0], [34, 1, 0, 0], [41, 4, 5, 0]],
+        &[
+            (&[0], Pending(1)),
+            (&[0, 2], Settled(2)),
+            (&[0, 0], Broken(2)),
+            (&[1, 3, 2], Pending(3)),
+            (&[1, 3, 2, 2], Settled(4)),
+        ],
+    ),
+];
+
+pub fn runs() -> impl Iterator<Item = Run> {
+    let more = LEFT_SIDES.iter().flat_map(|&(name, rows, traces)| {
+        traces.iter().map(move |&(samples, verdict)| (name, rows, samples, verdict))
+    });
+    RUNS.into_iter().chain(more)
+}
+
 /// A small run as a trace that is judged.
-pub fn judged_run((_, more_rows, samples, _): &Run) -> Case {
+pub fn judged_run((_, more_rows, samples, _): Run) -> Case {
     let mut rows = vec![[3, 0, 0, 0], [3, 1, 0, 0], [3, 2, 0, 0], [2, 0, 0, 0]];
     rows.extend_from_slice(more_rows);
     let root = rows.len() as u16 - 1;
@@ -76,7 +267,7 @@ fn place((verdict, sample): (Verdict, u32)) -> Case {
 }
 
 pub fn fixed(random: &mut Random, vectors: &mut Vectors) {
-    for run in &RUNS {
+    for run in runs() {
         let case = judged_run(run);
         vectors.record(&case, case.answer());
         vectors.record_steps(&Case { kind: STEPS, ..case });
@@ -87,8 +278,10 @@ pub fn fixed(random: &mut Random, vectors: &mut Vectors) {
     for at in PLACES {
         vectors.record_stray(&place(at));
     }
-    cases::cases(random, vectors, 100, 100);
+    // The runs count as verdicts and as steps, and the random cases come on top of them.
+    let (verdicts, steps) = (vectors.verdicts() + 70, vectors.of_kind[STEPS as usize] + 30);
+    cases::cases(random, vectors, verdicts, 100);
     cases::checks(random, vectors, 200);
-    monitors::steps(random, vectors, 60);
+    monitors::steps(random, vectors, steps);
     monitors::strays(random, vectors, 60);
 }

@@ -127,9 +127,6 @@ impl<'a> Reading<'a> {
             PropertyForm::Overlapping(r, a) => {
                 (i..n).any(|j| self.matches(r, i, j + 1) && self.breaks(a, j, n))
             }
-            PropertyForm::Following(r, a) => {
-                (i..n).any(|j| self.matches(r, i, j + 1) && self.breaks(a, j + 1, n))
-            }
             PropertyForm::Never(r) => {
                 (i..n).any(|start| (start..n).any(|j| self.matches(r, start, j + 1)))
             }
@@ -155,10 +152,6 @@ impl<'a> Reading<'a> {
             }),
             PropertyForm::Overlapping(r, a) => {
                 (i..n).all(|j| !self.matches(r, i, j + 1) || self.secures(a, j, n))
-                    && !self.completes(r, i, n)
-            }
-            PropertyForm::Following(r, a) => {
-                (i..n).all(|j| !self.matches(r, i, j + 1) || self.secures(a, j + 1, n))
                     && !self.completes(r, i, n)
             }
         }

@@ -2,7 +2,8 @@
 //! and with what holds of the definitions at random.
 
 use crate::draft::Draft;
-use crate::fixed::{self, RUNS};
+use crate::fixed;
+use crate::following::{add_roots, said, Parts};
 use crate::judge;
 use crate::properties::Reading;
 use crate::random::Random;
@@ -43,12 +44,13 @@ pub fn run() -> Result<(), String> {
         no_longer_run_of_t_is_needed(&mut random)?;
         verdicts_last(&mut random)?;
     }
+    following_rules(&mut random)?;
     println!("selftest: no difference");
     Ok(())
 }
 
 fn small_runs() -> Result<(), String> {
-    for run in &RUNS {
+    for run in fixed::runs() {
         let case = fixed::judged_run(run);
         let found = judge::judge(&case.table, &case.trace, 0);
         expect(&format!("{} on {:?}", run.0, run.2), found, Ok(run.3))?;
@@ -139,7 +141,8 @@ fn no_longer_run_of_t_is_needed(random: &mut Random) -> Result<(), String> {
     let mut maker = tables::Maker::new(random, 3);
     let size = maker.random.between(1, 7);
     let sequence = maker.sequence(size, 8);
-    let root = maker.draft.push([42, sequence, 0, 0]);
+    let row = maker.random.pick(&[[41, sequence, 0, 0], [42, sequence, 0, 0]]);
+    let root = maker.draft.push(row);
     maker.root(root);
     let draft = maker.finish();
     let table = table::check(&draft.bytes()).map_err(|refusal| format!("{:?}", refusal))?;
@@ -149,7 +152,7 @@ fn no_longer_run_of_t_is_needed(random: &mut Random) -> Result<(), String> {
         .into_iter()
         .map(|sample| tree::satisfied(&table, sample))
         .collect();
-    if let PropertyForm::Never(r) = &tree.root.form {
+    if let PropertyForm::Overlapping(r, _) | PropertyForm::Never(r) = &tree.root.form {
         let most = tree::cells(r) + 10;
         let mut word = Word::new(&samples, most, tree.slots);
         let completed = (1..=most).any(|m| word.matches(r, 0, samples.len() + m));
@@ -174,4 +177,38 @@ fn verdicts_last(random: &mut Random) -> Result<(), String> {
         before = code;
     }
     Ok(())
+}
+
+/// Left sides with and without a match of the empty word, on lists that break, secure or neither.
+fn following_rules(random: &mut Random) -> Result<(), String> {
+    let mut seen = [[0; 3]; 2];
+    for _ in 0..2_000 {
+        let (empty, found) = following_rule(random)?;
+        seen[empty as usize][found as usize] += 1;
+    }
+    expect(&format!("each seen {:?}", seen), seen.iter().flatten().all(|&count| count >= 50), true)
+}
+
+/// The reading of |=> against {r ; true} |-> f in rows, and against the rules over r itself.
+fn following_rule(random: &mut Random) -> Result<(bool, u64), String> {
+    let mut maker = tables::Maker::new(random, 3);
+    let sizes = [maker.random.between(0, 5), maker.random.between(0, 4)];
+    let left = maker.left_side(41, sizes[0], 5);
+    let right = maker.property(sizes[1]);
+    let root = maker.draft.push([41, left, right, 0]);
+    maker.root(root);
+    let draft = maker.finish();
+    let mut table = table::check(&draft.bytes()).map_err(|refusal| format!("{:?}", refusal))?;
+    add_roots(&mut table);
+    let length = random.between(0, 5);
+    let samples = traces::walk(random, &draft, length);
+    let what = format!("{:?} on {:?}", draft.rows, samples);
+    let found = said(&table, 0, &samples);
+    let parts = Parts::read(&table, &samples);
+    expect(&format!("true in a row: {}", what), found, said(&table, 1, &samples))?;
+    expect(&format!("rule: {}", what), found, parts.rule())?;
+    if !parts.empty_matches() {
+        expect(&format!("rule of ends: {}", what), found, parts.rule_of_ends())?;
+    }
+    Ok((parts.empty_matches(), found))
 }

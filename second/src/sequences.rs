@@ -6,7 +6,8 @@
 //! - a ; b: the split lies in v or at its end, and then b alone takes the letters T (at most
 //!   cells(b) needed); or a takes 1 or more of them (cells(a) needed) and b takes none or 1 or
 //!   more (cells(b) needed).
-//! - a : b: the same, the shared letter in v, or a letter T, which is then counted once.
+//! - a ; true: the last letter T is for true, and a takes none or 1 or more (cells(a) needed).
+//! - a : b: the same as a ; b, the shared letter in v, or a letter T, which is then counted once.
 //! - a | b: as the side that matches.
 //! - a[*], a[+]: the first letter T lies in one match of a, which needs at most cells(a) of
 //!   them; the matches after it can be left out.
@@ -68,6 +69,8 @@ impl Word {
             SequenceForm::Then(a, b) => {
                 (i..=j).any(|k| self.matches(a, i, k) && self.matches(b, k, j))
             }
+            // Any letter satisfies true, so a takes all but the last.
+            SequenceForm::ThenTrue(a) => i < j && self.matches(a, i, j - 1),
             SequenceForm::Sharing(a, b) => {
                 (i..j).any(|k| self.matches(a, i, k + 1) && self.matches(b, k, j))
             }

@@ -133,9 +133,24 @@ impl<'a> Maker<'a> {
             35 => (self.boolean(), self.property(part), self.property(rest - part)),
             36 => (self.boolean(), self.property(rest), 0),
             37 | 39 => (self.property(rest), self.boolean(), 0),
-            _ => (self.sequence(part, MOST_NODES), self.property(rest - part), 0),
+            _ => (self.left_side(kind, part, MOST_NODES), self.property(rest - part), 0),
         };
         self.push(kind, a, b, c)
+    }
+
+    /// One more row over a property.
+    pub fn frame(&mut self, inner: u8) -> u8 {
+        let kind = self.random.pick(&[34, 36, 38, 38, 38, 39, 40, 41]);
+        let guard = self.boolean();
+        match kind {
+            34 | 38 => self.push(kind, inner, 0, 0),
+            36 => self.push(36, guard, inner, 0),
+            39 => self.push(39, inner, guard, 0),
+            _ => {
+                let left = self.left_side(kind, 3, 3);
+                self.push(kind, left, inner, 0)
+            }
+        }
     }
 
     pub fn root(&mut self, node: u8) {
@@ -179,17 +194,7 @@ pub fn framed(random: &mut Random) -> Draft {
     let mut maker = Maker::new(random, first);
     let size = maker.random.between(2, 8);
     let inner = maker.property(size);
-    let kind = maker.random.pick(&[34, 36, 38, 38, 38, 39, 40, 41]);
-    let guard = maker.boolean();
-    let node = match kind {
-        34 | 38 => maker.push(kind, inner, 0, 0),
-        36 => maker.push(36, guard, inner, 0),
-        39 => maker.push(39, inner, guard, 0),
-        _ => {
-            let left = maker.sequence(3, 3);
-            maker.push(kind, left, inner, 0)
-        }
-    };
+    let node = maker.frame(inner);
     maker.root(node);
     maker.finish()
 }
@@ -224,8 +229,11 @@ pub fn wide(random: &mut Random) -> Draft {
     for _ in 0..(MOST_NODES - 1 - cells).min(2) {
         maker.new_boolean();
     }
-    let left = maker.sequence_of_cells(cells, kinds);
+    let mut left = maker.sequence_of_cells(cells, kinds);
     let kind = maker.random.pick(&[40, 41, 42]);
+    if kind == 41 && maker.draft.rows.len() + 3 <= MOST_NODES && maker.random.chance(1, 2) {
+        left = maker.or_empty(left);
+    }
     let right = if kind == 42 { 0 } else { maker.boolean() };
     let node = maker.push(kind, left, right, 0);
     maker.root(node);
@@ -254,10 +262,10 @@ pub fn overlapping(random: &mut Random) -> Draft {
     let first = random.between(2, 4);
     let mut maker = Maker::new(random, first);
     let sizes = [maker.random.between(0, 3), maker.random.between(2, 7)];
-    let left = maker.sequence(sizes[0], 3);
+    let kind = maker.random.pick(&[40, 41, 41]);
+    let left = maker.left_side(kind, sizes[0], 3);
     let right = maker.sequence(sizes[1], MOST_WEAK_CELLS);
     let weak = maker.push(32, right, 0, 0);
-    let kind = maker.random.pick(&[40, 41, 41]);
     let attempt = maker.push(kind, left, weak, 0);
     let guard = maker.boolean();
     let node = match maker.random.below(4) {
@@ -281,8 +289,11 @@ pub fn pipelined(random: &mut Random) -> Draft {
         sequence = maker.push(kind, sequence, next, 0);
     }
     let weak = maker.push(32, sequence, 0, 0);
-    let guard = maker.boolean();
     let kind = maker.random.pick(&[36, 40, 41]);
+    let guard = match kind {
+        41 => maker.left_side(41, 1, 1),
+        _ => maker.boolean(),
+    };
     let attempt = maker.push(kind, guard, weak, 0);
     let node = maker.push(38, attempt, 0, 0);
     maker.root(node);

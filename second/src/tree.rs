@@ -12,6 +12,8 @@ pub enum SequenceForm {
     /// The node number of a Boolean that stands as a sequence.
     Boolean(usize),
     Then(Box<Sequence>, Box<Sequence>),
+    /// a ; true, the left side a of |=>; no row says this true.
+    ThenTrue(Box<Sequence>),
     Sharing(Box<Sequence>, Box<Sequence>),
     Either(Box<Sequence>, Box<Sequence>),
     AnyTimes(Box<Sequence>),
@@ -34,8 +36,8 @@ pub enum PropertyForm {
     Or(Box<Property>, usize),
     Always(Box<Property>),
     Until(Box<Property>, usize),
+    /// r |-> f, and r |=> f as {r ; true} |-> f.
     Overlapping(Sequence, Box<Property>),
-    Following(Sequence, Box<Property>),
     Never(Sequence),
 }
 
@@ -58,6 +60,13 @@ pub fn read(table: &Table, property: usize) -> Tree {
     Tree { root, slots: reader.slots, most_cells: reader.most_cells }
 }
 
+/// The sequence at a node by itself, with the number of slots it has.
+pub fn read_sequence(table: &Table, node: usize) -> (Sequence, usize) {
+    let mut reader = Reader { table, slots: 0, most_cells: 0 };
+    let r = reader.sequence(node);
+    (r, reader.slots)
+}
+
 impl Reader<'_> {
     fn slot(&mut self) -> usize {
         self.slots += 1;
@@ -67,7 +76,6 @@ impl Reader<'_> {
     fn sequence(&mut self, node: usize) -> Sequence {
         let [kind, a, b, _] = self.table.rows[node];
         let (a, b) = (a as usize, b as usize);
-        let slot = self.slot();
         let form = match kind {
             16 => SequenceForm::Then(self.boxed_sequence(a), self.boxed_sequence(b)),
             17 => SequenceForm::Sharing(self.boxed_sequence(a), self.boxed_sequence(b)),
@@ -76,16 +84,30 @@ impl Reader<'_> {
             20 => SequenceForm::OnceOrMore(self.boxed_sequence(a)),
             _ => SequenceForm::Boolean(node),
         };
-        Sequence { slot, form }
+        self.sequence_of(form)
+    }
+
+    fn sequence_of(&mut self, form: SequenceForm) -> Sequence {
+        Sequence { slot: self.slot(), form }
     }
 
     fn boxed_sequence(&mut self, node: usize) -> Box<Sequence> {
         Box::new(self.sequence(node))
     }
 
-    /// A sequence that is tried with letters T after it.
     fn completed_sequence(&mut self, node: usize) -> Sequence {
         let r = self.sequence(node);
+        self.completed(r)
+    }
+
+    fn completed_then_true(&mut self, node: usize) -> Sequence {
+        let form = SequenceForm::ThenTrue(self.boxed_sequence(node));
+        let r = self.sequence_of(form);
+        self.completed(r)
+    }
+
+    /// A sequence that is tried with letters T after it.
+    fn completed(&mut self, r: Sequence) -> Sequence {
         self.most_cells = self.most_cells.max(cells(&r));
         r
     }
@@ -104,7 +126,7 @@ impl Reader<'_> {
             38 => PropertyForm::Always(self.boxed_property(a)),
             39 => PropertyForm::Until(self.boxed_property(a), b),
             40 => PropertyForm::Overlapping(self.completed_sequence(a), self.boxed_property(b)),
-            41 => PropertyForm::Following(self.completed_sequence(a), self.boxed_property(b)),
+            41 => PropertyForm::Overlapping(self.completed_then_true(a), self.boxed_property(b)),
             42 => PropertyForm::Never(self.sequence(a)),
             _ => PropertyForm::Boolean(node),
         };
@@ -116,13 +138,14 @@ impl Reader<'_> {
     }
 }
 
-/// The places where a Boolean stands as a sequence.
+/// The places where a Boolean stands as a sequence, the true of |=> among them.
 pub fn cells(r: &Sequence) -> usize {
     match &r.form {
         SequenceForm::Boolean(_) => 1,
         SequenceForm::Then(a, b) | SequenceForm::Sharing(a, b) | SequenceForm::Either(a, b) => {
             cells(a) + cells(b)
         }
+        SequenceForm::ThenTrue(a) => cells(a) + 1,
         SequenceForm::AnyTimes(a) | SequenceForm::OnceOrMore(a) => cells(a),
     }
 }

@@ -105,7 +105,7 @@ impl Vectors {
         }
         self.bytes.extend_from_slice(&case.state);
         self.of_kind[case.kind as usize] += 1;
-        self.coverage.count(case);
+        self.coverage.count(case, answers);
     }
 
     /// A monitor that is opened and fed; of the answers the last verdict is counted, or a refusal to open.
