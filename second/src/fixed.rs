@@ -40,8 +40,9 @@ const RUNS: [Run; 16] = [
     ),
 ];
 
-/// Where a left side of |=> matches the empty word, its right side is owed at once; and where
-/// it matches the whole list, nothing is settled yet. Not so with |-> and with a : b.
+/// Where a left side of |=> matches the empty word, its right side is owed at once; where it
+/// matches the whole list, nothing is settled yet. No a : b matches the empty word, and |-> asks
+/// for non-empty matches only.
 const LEFT_SIDES: [Runs; 21] = [
     (
         "{a[*]} |=> b",

@@ -66,7 +66,7 @@ impl Parts {
     }
 
     /// For an r that does not match the empty word: f is owed from j + 1 on where a match ends
-    /// at sample j; that may be the last one, and no samples secure nothing.
+    /// at sample j. After the last sample the list is empty, which secures nothing.
     pub fn rule_of_ends(&self) -> u64 {
         let ends = (0..self.n).filter(|&j| self.matched[j + 1]);
         let owed = ends.map(|j| self.rests[j + 1]).collect();
