@@ -9,7 +9,7 @@ use lib.Dec.{T, eqb}
 use lib.Bits.{bitAnd, bitOr, and-lt}
 use lib.ListN.{length, getD}
 use Rattle.psl.specs.Booleans.{bit}
-use Rattle.psl.specs.Proof.Decide.Tells.{Tells, tells-and, tells-or, tells-eq, tells-iff, tells-value, tells-not-value, tells-true, true-tells}
+use Rattle.psl.specs.Tells.{Tells, tells-and, tells-or, tells-eq, tells-iff, tells-value, tells-not-value, tells-true, true-tells}
 use Rattle.words.specs.Bits.{bit-none, bit-and, bit-or}
 use Rattle.words.specs.Sets.{HasFrom}
 use Rattle.lanes.specs.Rows.{Row}

@@ -6,7 +6,7 @@ use mathlib.Core.Bool.{Bool, _||_}
 use mathlib.Core.List.{List}
 use lib.Bits.{bitOr}
 use Rattle.psl.specs.Booleans.{Boolean, bit}
-use Rattle.psl.specs.Proof.Decide.Tells.{Tells}
+use Rattle.psl.specs.Tells.{Tells}
 use Rattle.psl.specs.Proof.Model.Nodes.{Node}
 use Rattle.table.specs.Trees.{booleanAt}
 use Rattle.lanes.specs.Rows.{Row, Sound}

@@ -12,7 +12,7 @@ use lib.Dec.{T, eqb, ltb}
 use lib.ListN.{getD, set, length}
 use borrow.Author.Tests.{eq-eqb, ne-eqb, lt-ltb, lt-leb, le-leb}
 use Rattle.psl.specs.Booleans.{bit}
-use Rattle.psl.specs.Proof.Decide.Tells.{any}
+use Rattle.psl.specs.Tells.{any}
 use Rattle.words.specs.Bits.{bit-none, bit-or, bit-and, bit-shr, bit-mod, bit-shifted, same-bits}
 use Rattle.table.specs.Laws.Spans.{allFrom, every}
 use Rattle.accepted.specs.Shapes.{same, same-eq}

@@ -11,7 +11,7 @@ use lib.ListN.{getD, set, length, length-set}
 use lib.Seq.{getD-set-same, getD-set-other}
 use borrow.Author.Tests.{eqb-true, eq-eqb}
 use Rattle.psl.specs.Booleans.{bit}
-use Rattle.psl.specs.Proof.Decide.Tells.{any, tells-value, tells-any}
+use Rattle.psl.specs.Tells.{any, tells-value, tells-any}
 use Rattle.words.specs.Bits.{bit-none, bit-high, set-below, bit-or}
 use Rattle.words.specs.Sets.{WithBit}
 use Rattle.words.specs.Walk.{Turn, Left, left-start, left-turn, left-end}

@@ -9,7 +9,7 @@ use mathlib.Core.Logic.{_⊎_, inl, inr, ⊎-elim}
 use lib.Dec.{eqb, ltb}
 use borrow.Author.Tests.{eq-eqb, ne-eqb, lt-ltb, ltb-true}
 use Rattle.psl.specs.Booleans.{bit}
-use Rattle.psl.specs.Proof.Decide.Tells.{Tells, does, doesnt, tells-or, tells-iff, tells-value}
+use Rattle.psl.specs.Tells.{Tells, does, doesnt, tells-or, tells-iff, tells-value}
 use Rattle.psl.specs.Proof.Model.Nodes.{Node}
 use Rattle.psl.specs.Proof.Model.Step.{sends, keeps}
 use Rattle.psl.specs.Proof.Model.Pass.{pass}

@@ -11,7 +11,7 @@ use lib.ListN.{length, getD}
 use lib.Pow.{shl-exact, pow-pos, ones-sub-lt}
 use borrow.Author.Tests.{lt-ltb, ltb-true}
 use Rattle.psl.specs.Booleans.{bit}
-use Rattle.psl.specs.Proof.Decide.Tells.{Tells, tells-iff, tells-eq}
+use Rattle.psl.specs.Tells.{Tells, tells-iff, tells-eq}
 use Rattle.table.specs.Rows.{rowAt, edgeRow}
 use Rattle.words.specs.Bits.{bit-none, bit-and, bit-not, bit-ones, set-below, no-bits}
 use Rattle.engine.specs.Reads.{kindOf, aOf, bOf, cOf, Held, Within, HeldRows}

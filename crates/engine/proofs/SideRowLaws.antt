@@ -9,7 +9,7 @@ use mathlib.Core.Logic.{_⊎_, inl, inr, ⊎-elim}
 use lib.Dec.{T, eqb}
 use borrow.Author.Tests.{eq-eqb, ne-eqb}
 use Rattle.psl.specs.Booleans.{Letter, bit}
-use Rattle.psl.specs.Proof.Decide.Tells.{tells-or, tells-and, tells-value, tells-eq, tells-true}
+use Rattle.psl.specs.Tells.{tells-or, tells-and, tells-value, tells-eq, tells-true}
 use Rattle.lanes.specs.Rows.{Row, r-bool, r-then, r-fuse, r-alt, r-star, r-plus, r-weak, r-left, r-rest, Has, IsSequence, CellAt}
 use Rattle.lanes.specs.UpPass.{Part, operand-by}
 use Rattle.words.specs.Sets.{WithBit}

@@ -9,7 +9,7 @@ use lib.Dec.{eqb, ltb}
 use lib.ListN.{length, getD}
 use borrow.Author.Tests.{lt-ltb, le-ltb, eq-eqb, ne-eqb}
 use Rattle.psl.specs.Booleans.{bit, sample}
-use Rattle.psl.specs.Proof.Decide.Tells.{tells-and, tells-lt, tells-value, tells-true}
+use Rattle.psl.specs.Tells.{tells-and, tells-lt, tells-value, tells-true}
 use Rattle.words.specs.Bits.{bit-none}
 use Rattle.words.specs.Sets.{Highest, Without}
 use Rattle.words.specs.Walk.{Turn, turn-down, rest-in}

@@ -7,7 +7,7 @@ use mathlib.Core.Path.{_≡_, refl, _∙_, ap}
 use mathlib.Core.Bool.{Bool, true, false}
 use mathlib.Core.List.{List}
 use Rattle.psl.specs.Booleans.{bit}
-use Rattle.psl.specs.Proof.Decide.Tells.{tells-and, tells-value, tells-eq, tells-true, true-tells}
+use Rattle.psl.specs.Tells.{tells-and, tells-value, tells-eq, tells-true, true-tells}
 use Rattle.engine.specs.Reads.{kindOf}
 use Rattle.engine.specs.Weaks.{one-if, weaksAbove, weakNumber}
 use Rattle.engine.specs.WeakPass.{isWeak}

@@ -9,7 +9,7 @@ use mathlib.Core.Logic.{_⊎_, inl, inr}
 use lib.ListN.{length, getD, set}
 use lib.Seq.{getD-set-same, getD-set-other}
 use Rattle.psl.specs.Booleans.{bit, sample}
-use Rattle.psl.specs.Proof.Decide.Tells.{tells-eq, tells-dec}
+use Rattle.psl.specs.Tells.{tells-eq, tells-dec}
 use Rattle.psl.specs.Proof.Marks.Masks.{cells}
 use Rattle.lanes.specs.ShiftedLanes.{Cap, exact, over}
 use Rattle.lanes.specs.Rows.{Row, Has}

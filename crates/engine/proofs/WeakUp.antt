@@ -12,7 +12,7 @@ use lib.ListN.{length, getD, set, length-set}
 use lib.Seq.{getD-set-same, getD-set-other}
 use borrow.Author.Tests.{lt-ltb, le-ltb}
 use Rattle.psl.specs.Booleans.{Boolean, bit, holds, sample}
-use Rattle.psl.specs.Proof.Decide.Tells.{tells-eq, tells-dec}
+use Rattle.psl.specs.Tells.{tells-eq, tells-dec}
 use Rattle.words.specs.Sets.{Lowest, Without}
 use Rattle.words.specs.Walk.{Turn, turn-up, Left, left-start, left-turn, left-end, rest-in}
 use Rattle.words.specs.Bits.{bit-or}

@@ -12,7 +12,7 @@ use lib.Dec.{T}
 use lib.ListN.{getD, set}
 use lib.Seq.{getD-set-same, getD-set-other}
 use Rattle.psl.specs.Booleans.{Boolean, bit, sample}
-use Rattle.psl.specs.Proof.Decide.Tells.{tells-eq, tells-dec, tells-or, tells-value, tells-true}
+use Rattle.psl.specs.Tells.{tells-eq, tells-dec, tells-or, tells-value, tells-true}
 use Rattle.words.specs.Bits.{bit-or}
 use Rattle.lanes.specs.Rows.{Row, r-bool, r-then, r-fuse, r-alt, r-star, r-plus, r-weak, r-left, r-rest, Has, IsSequence}
 use Rattle.lanes.specs.Expected.{Table}

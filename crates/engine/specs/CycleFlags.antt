@@ -9,7 +9,7 @@ use mathlib.Core.Logic.{_⊎_, inl, inr, ⊎-elim}
 use lib.Dec.{T}
 use Rattle.psl.specs.Booleans.{Boolean, bit, holds, sample}
 use Rattle.psl.specs.Sequences.{Sequence}
-use Rattle.psl.specs.Proof.Decide.Tells.{Tells, any, tells-any, tells-and, tells-or, tells-value, tells-not-value, tells-true, tells-no, tells-iff}
+use Rattle.psl.specs.Tells.{Tells, any, tells-any, tells-and, tells-or, tells-value, tells-not-value, tells-true, tells-no, tells-iff}
 use Rattle.psl.specs.Proof.Model.Nodes.{Node, n-never}
 use Rattle.psl.specs.Proof.Model.Step.{keeps}
 use Rattle.psl.specs.Proof.Model.Judge.{breaksAt}

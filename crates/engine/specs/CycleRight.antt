@@ -8,7 +8,7 @@ use mathlib.Core.List.{List}
 use lib.Dec.{T}
 use lib.ListN.{getD, length}
 use Rattle.psl.specs.Booleans.{bit, sample}
-use Rattle.psl.specs.Proof.Decide.Tells.{tells-value, tells-no}
+use Rattle.psl.specs.Tells.{tells-value, tells-no}
 use Rattle.psl.specs.Proof.Model.Nodes.{Node}
 use Rattle.table.specs.Choice.{pick}
 use Rattle.table.specs.Subset.{Subset}

@@ -9,7 +9,7 @@ use mathlib.Core.List.{List}
 use mathlib.Core.Logic.{_⊎_, inl, inr, ⊎-elim}
 use lib.Dec.{T, eqb}
 use Rattle.psl.specs.Booleans.{bit}
-use Rattle.psl.specs.Proof.Decide.Tells.{Tells, any, tells-any, tells-and, tells-or, tells-value, tells-eq, tells-true, true-tells, does, doesnt}
+use Rattle.psl.specs.Tells.{Tells, any, tells-any, tells-and, tells-or, tells-value, tells-eq, tells-true, true-tells, does, doesnt}
 use Rattle.lanes.specs.Families.{with-bit, word, word-lt, set-ends, image, moves, moved-to}
 use Rattle.engine.specs.Reads.{kindOf}
 use Rattle.engine.specs.Weaks.{one-if, weaksAbove, weakNumber}

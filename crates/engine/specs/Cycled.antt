@@ -6,7 +6,7 @@ use mathlib.Core.Bool.{Bool, true, _&&_, _||_}
 use mathlib.Core.List.{List}
 use lib.Dec.{eqb}
 use Rattle.psl.specs.Booleans.{bit}
-use Rattle.psl.specs.Proof.Decide.Tells.{Tells, any}
+use Rattle.psl.specs.Tells.{Tells, any}
 use Rattle.psl.specs.Proof.Model.Nodes.{Node}
 use Rattle.table.specs.Trees.{booleanAt}
 use Rattle.table.specs.Subset.{Subset}

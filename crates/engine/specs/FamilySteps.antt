@@ -7,7 +7,7 @@ use lib.Bits.{bitOr}
 use lib.Dec.{eqb}
 use lib.ListN.{getD, length}
 use Rattle.psl.specs.Booleans.{bit}
-use Rattle.psl.specs.Proof.Decide.Tells.{any}
+use Rattle.psl.specs.Tells.{any}
 use Rattle.lanes.specs.Families.{word, moved-to}
 use Rattle.engine.specs.Families.{endsIn, leadsIn}
 

@@ -7,8 +7,7 @@ use lib.Dec.{eqb}
 use lib.ListN.{length}
 use Rattle.psl.specs.Booleans.{bit}
 use Rattle.psl.specs.Properties.{Property}
-use Rattle.psl.specs.Verdicts.{pending, Right}
-use Rattle.psl.specs.Proof.Model.Verdicts.{judged}
+use Rattle.psl.specs.Verdicts.{pending, Right, judged}
 use Rattle.psl.specs.Proof.Model.Nodes.{propAt}
 use Rattle.table.specs.Trees.{propertyAt}
 use Rattle.table.specs.Subset.{Subset}

@@ -11,7 +11,7 @@ use lib.Dec.{T, eqb, ltb}
 use Rattle.psl.specs.Booleans.{Boolean, constant}
 use Rattle.psl.specs.Sequences.{Sequence}
 use Rattle.psl.specs.Properties.{Property}
-use Rattle.psl.specs.Proof.Decide.Tells.{tells-dec, tells-eq, tells-lt, tells-or, tells-and, tells-true}
+use Rattle.psl.specs.Tells.{tells-dec, tells-eq, tells-lt, tells-or, tells-and, tells-true}
 use Rattle.psl.specs.Proof.Model.Nodes.{Node, n-bool, n-weak, n-never, n-both, n-next, n-always, n-if-else, n-implies, n-or, n-until, n-suffix, n-suffix-next, Falls, build, propAt, propAt-is}
 use Rattle.table.specs.Choice.{pick, within}
 use Rattle.table.specs.Kinds.{classOf, fieldsOf, takesOf}

@@ -7,7 +7,7 @@ use mathlib.Core.Bool.{Bool, true, false, _&&_}
 use mathlib.Core.List.{List}
 use lib.Dec.{T, ltb}
 use Rattle.psl.specs.Booleans.{Boolean, bit}
-use Rattle.psl.specs.Proof.Decide.Tells.{tells-lt, tells-and, tells-value, tells-true, true-tells}
+use Rattle.psl.specs.Tells.{tells-lt, tells-and, tells-value, tells-true, true-tells}
 use Rattle.table.specs.Choice.{pick}
 use Rattle.table.specs.Kinds.{classOf, fieldsOf, takesOf, classOk, inB}
 use Rattle.table.specs.Trees.{booleanAt}

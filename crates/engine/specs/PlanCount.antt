@@ -8,7 +8,7 @@ use mathlib.Core.List.{List}
 use mathlib.Core.Logic.{_⊎_, inl, inr, ⊎-elim}
 use lib.Dec.{T, T-not, eqb, ltb}
 use Rattle.psl.specs.Booleans.{bit}
-use Rattle.psl.specs.Proof.Decide.Tells.{tells-eq, tells-lt, tells-and, tells-or, tells-value, tells-no, true-tells}
+use Rattle.psl.specs.Tells.{tells-eq, tells-lt, tells-and, tells-or, tells-value, tells-no, true-tells}
 use Rattle.table.specs.Choice.{pick}
 use Rattle.table.specs.Kinds.{classOf, fieldsOf, takesOf, classOk, inQ}
 use Rattle.table.specs.Subset.{Subset, kindAt, Field, field-a, field-b, field-c, holdsIn, holdsAt, valueAt, IsOperand}

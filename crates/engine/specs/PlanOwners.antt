@@ -7,7 +7,7 @@ use mathlib.Core.List.{List}
 use mathlib.Core.Logic.{_⊎_, inl, inr, ⊎-elim}
 use lib.Dec.{T}
 use Rattle.psl.specs.Booleans.{Letter, bit}
-use Rattle.psl.specs.Proof.Decide.Tells.{tells-value, tells-or, tells-true, tells-no}
+use Rattle.psl.specs.Tells.{tells-value, tells-or, tells-true, tells-no}
 use Rattle.table.specs.Subset.{Subset}
 use Rattle.table.specs.declared.Counts.{Counts}
 use Rattle.table.specs.Choice.{pick}

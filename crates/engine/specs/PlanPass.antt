@@ -10,7 +10,7 @@ use lib.Dec.{T, eqb, leb}
 use lib.Bits.{bitOr}
 use Rattle.psl.specs.Booleans.{Boolean, bit, holds, sample}
 use Rattle.psl.specs.Proof.Marks.Automaton.{nullable}
-use Rattle.psl.specs.Proof.Decide.Tells.{tells-lt, tells-eq, tells-and, tells-value, tells-true, true-tells, tells-no}
+use Rattle.psl.specs.Tells.{tells-lt, tells-eq, tells-and, tells-value, tells-true, true-tells, tells-no}
 use Rattle.psl.specs.Proof.Model.Nodes.{Node}
 use Rattle.psl.specs.Proof.Model.Monitor as M
 use Rattle.table.specs.Choice.{pick}

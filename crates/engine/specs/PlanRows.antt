@@ -10,7 +10,7 @@ use lib.Dec.{T, T-not, eqb, ltb}
 use lib.Bits.{bitOr}
 use Rattle.psl.specs.Booleans.{Boolean, constant, bit, holds, sample}
 use Rattle.psl.specs.Proof.Marks.Automaton.{nullable}
-use Rattle.psl.specs.Proof.Decide.Tells.{Tells, does, doesnt, tells-lt, tells-eq, tells-and, tells-or, tells-not, tells-value, tells-true, true-tells, tells-no}
+use Rattle.psl.specs.Tells.{Tells, does, doesnt, tells-lt, tells-eq, tells-and, tells-or, tells-not, tells-value, tells-true, true-tells, tells-no}
 use Rattle.psl.specs.Proof.Model.Nodes.{Node, n-bool, n-weak}
 use Rattle.psl.specs.Proof.Model.Monitor as M
 use Rattle.words.specs.Bits.{bit-or}

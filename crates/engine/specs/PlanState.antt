@@ -5,7 +5,7 @@ use mathlib.Core.Path.{_≡_, refl, sym, _∙_, ap, subst}
 use mathlib.Core.Bool.{Bool, true, false, _&&_, _||_}
 use lib.Dec.{T}
 use Rattle.psl.specs.Booleans.{sample}
-use Rattle.psl.specs.Proof.Decide.Tells.{tells-value, tells-no}
+use Rattle.psl.specs.Tells.{tells-value, tells-no}
 use Rattle.psl.specs.Proof.Model.Nodes.{Node, n-bool, n-weak, n-never, n-both, n-next, n-always, n-if-else, n-implies, n-or, n-until, n-suffix, n-suffix-next}
 use Rattle.psl.specs.Proof.Model.Step.{keeps}
 use Rattle.lanes.specs.Rows.{Row, r-left, CellAt}

@@ -11,7 +11,7 @@ use Rattle.psl.specs.Booleans.{Boolean, constant, bit}
 use Rattle.psl.specs.Sequences.{Sequence}
 use Rattle.psl.specs.Properties.{Property, boolean, weak, both, next, if-else, implies, or-else, always, until, suffix, suffix-next, never}
 use Rattle.psl.specs.Proof.Model.Monitor as M
-use Rattle.psl.specs.Proof.Decide.Tells.{tells-lt, tells-and, tells-true, true-tells}
+use Rattle.psl.specs.Tells.{tells-lt, tells-and, tells-true, true-tells}
 use Rattle.psl.specs.Proof.Model.Nodes.{Node, n-bool, n-weak, n-never, n-both, n-next, n-always, n-if-else, n-implies, n-or, n-until, n-suffix, n-suffix-next, Falls, build, propAt, propAt-is}
 use Rattle.table.specs.Choice.{pick, within}
 use Rattle.table.specs.Kinds.{classOf, fieldsOf, takesOf, inF}

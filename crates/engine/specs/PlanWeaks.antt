@@ -7,7 +7,7 @@ use mathlib.Core.List.{List}
 use mathlib.Core.Logic.{inl, inr, ⊎-elim}
 use borrow.Author.Tests.{le-leb}
 use Rattle.psl.specs.Booleans.{bit}
-use Rattle.psl.specs.Proof.Decide.Tells.{tells-or, tells-value, tells-true}
+use Rattle.psl.specs.Tells.{tells-or, tells-value, tells-true}
 use Rattle.table.specs.Choice.{pick}
 use Rattle.table.specs.Kinds.{fieldsOf, takesOf}
 use Rattle.table.specs.Trees.{booleanAt}

@@ -6,7 +6,7 @@ use mathlib.Core.List.{List}
 use Rattle.psl.specs.Booleans.{Boolean, bit, holds}
 use Rattle.psl.specs.Sequences.{Sequence}
 use Rattle.psl.specs.Proof.Marks.Automaton.{nullable}
-use Rattle.psl.specs.Proof.Decide.Tells.{Tells}
+use Rattle.psl.specs.Tells.{Tells}
 use Rattle.psl.specs.Proof.Model.Nodes.{Node, n-bool, n-weak, n-never, n-both, n-next, n-always, n-if-else, n-implies, n-or, n-until, n-suffix, n-suffix-next}
 use Rattle.psl.specs.Proof.Model.Step.{keeps}
 use Rattle.psl.specs.Proof.Model.Pass.{pass}

@@ -12,7 +12,7 @@ use lib.Dec.{T, ltb}
 use lib.ListN.{getD}
 use lib.Seq.{ext-getD}
 use Rattle.psl.specs.Booleans.{bit}
-use Rattle.psl.specs.Proof.Decide.Tells.{tells-value}
+use Rattle.psl.specs.Tells.{tells-value}
 use Rattle.table.specs.Kinds.{classOf}
 use Rattle.table.specs.Subset.{Subset, kindAt, Field, IsOperand, holdsAt, valueAt}
 use Rattle.table.specs.declared.Counts.{Counts}

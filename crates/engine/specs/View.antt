@@ -8,7 +8,7 @@ use mathlib.Core.List.{List}
 use mathlib.Core.Logic.{_⊎_, inl, inr, ⊎-elim}
 use lib.Dec.{T, eqb, ltb}
 use Rattle.psl.specs.Booleans.{Boolean, constant, bit}
-use Rattle.psl.specs.Proof.Decide.Tells.{Tells, does, doesnt, tells-value}
+use Rattle.psl.specs.Tells.{Tells, does, doesnt, tells-value}
 use Rattle.psl.specs.Proof.Marks.Masks.{cells}
 use Rattle.table.specs.Rows.{rowAt}
 use Rattle.table.specs.Trees.{booleanAt, sequenceAt}

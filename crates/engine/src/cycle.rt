@@ -12,7 +12,7 @@ ghost use Rattle.engine.specs.CycleWeaks.{WeaksLeft, WeaksTold};
 ghost use Rattle.engine.specs.Cycled.{Covered, Standing, Cycled};
 ghost use Rattle.engine.specs.Goes.{RightNext};
 ghost use Rattle.engine.specs.CycleFlags.{BooleanFails, NoWord};
-ghost use Rattle.psl.specs.Proof.Decide.Tells.{Tells};
+ghost use Rattle.psl.specs.Tells.{Tells};
 use crate::families;
 use crate::plan::Plan;
 use crate::properties;

@@ -1,6 +1,6 @@
 // The fields of a row that the bytes hold, and whether they hold it.
 ghost use mathlib.Core.Path.{_≡_};
-ghost use Rattle.psl.specs.Proof.Decide.Tells.{Tells};
+ghost use Rattle.psl.specs.Tells.{Tells};
 ghost use Rattle.engine.specs.Reads.{kindOf, aOf, bOf, cOf, Held, Within, HeldRows};
 
 pub(crate) fn kind(table: &[u8], n: u8) -> u8

@@ -10,7 +10,7 @@ use lib.Dec.{eqb}
 use lib.Bits.{bitOr, or-shr, or-mod}
 use lib.Pow.{pow-lt, pow-pos, pow-add, shl-shr}
 use Rattle.psl.specs.Booleans.{bit}
-use Rattle.psl.specs.Proof.Decide.Tells.{Tells, does, doesnt, tells-eq}
+use Rattle.psl.specs.Tells.{Tells, does, doesnt, tells-eq}
 
 -- Two tests of statements that follow from one another are equal.
 pub tells-same : {P Q : Type 0} {a b : Bool} → Tells P a → Tells Q b → (P → Q) → (Q → P) → a ≡ b

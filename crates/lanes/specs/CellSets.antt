@@ -13,7 +13,7 @@ use Rattle.psl.specs.Sequences.{Sequence, cell, then, fuse, alt, star, plus}
 use Rattle.psl.specs.Proof.Marks.Automaton.{Marks, empty, join, gate}
 use Rattle.psl.specs.Proof.Marks.Masks.{cells, mask, unmask, digit}
 use Rattle.psl.specs.Proof.Marks.Linear.{two}
-use Rattle.psl.specs.Proof.Decide.Tells.{tells-eq, tells-no, true-tells}
+use Rattle.psl.specs.Tells.{tells-eq, tells-no, true-tells}
 use Rattle.lanes.specs.Bits.{tells-same}
 
 -- cell number k, counted from the left, from b on, is marked just if f k

@@ -8,14 +8,13 @@ use mathlib.Core.List.{List, [], _∷_, _++_}
 use lib.Dec.{eqb}
 use lib.ListN.{length}
 use Rattle.psl.specs.Booleans.{Letter, sample}
-use Rattle.psl.specs.Verdicts.{pending, Right}
+use Rattle.psl.specs.Verdicts.{pending, Right, judged}
 use Rattle.psl.specs.Proof.Marks.Automaton.{nullable}
-use Rattle.psl.specs.Proof.Decide.Tells.{Tells, any}
+use Rattle.psl.specs.Tells.{Tells, any}
 use Rattle.psl.specs.Proof.Model.Nodes.{Node, Falls, propAt}
 use Rattle.psl.specs.Proof.Model.Step.{keeps}
 use Rattle.psl.specs.Proof.Model.Pass.{pass}
 use Rattle.psl.specs.Proof.Model.Judge.{breaksAt}
-use Rattle.psl.specs.Proof.Model.Verdicts.{judged}
 use Rattle.psl.specs.Proof.Model.Machine.{machine, good}
 use Rattle.psl.specs.Proof.Model.Monitor as M
 use Rattle.lanes.specs.Families.{moved-to}

@@ -10,7 +10,7 @@ use lib.Dec.{T}
 use Rattle.psl.specs.Booleans.{Boolean, Letter}
 use Rattle.psl.specs.Sequences.{Sequence}
 use Rattle.psl.specs.Proof.Marks.Automaton.{Marks}
-use Rattle.psl.specs.Proof.Decide.Tells.{tells-eq, tells-dec}
+use Rattle.psl.specs.Tells.{tells-eq, tells-dec}
 use Rattle.lanes.specs.Rows.{Row, r-bool, r-then, r-fuse, r-alt, r-star, r-plus, r-weak, r-left, r-rest, Has, Sits, s-cell, s-then, s-fuse, s-alt, s-star, s-plus, IsSequence, Two, One, two-then, two-fuse, two-alt, one-star, one-plus, one-weak, one-left, Sound, CellAt}
 use Rattle.lanes.specs.UpPass.{Part, RowPart, part-ok}
 use Rattle.lanes.specs.Uses.{Use, Fine, fine-cell, then-a, fuse-a, alt-a, then-b, fuse-b, alt-b, star-a, plus-a}

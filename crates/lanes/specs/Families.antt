@@ -13,7 +13,7 @@ use Rattle.psl.specs.Booleans.{Letter, sample, bit}
 use Rattle.psl.specs.Sequences.{Sequence}
 use Rattle.psl.specs.Proof.Marks.Automaton.{gate, first, step}
 use Rattle.psl.specs.Proof.Marks.Masks.{cells, mask, unmask, mask-lt, unmask-mask}
-use Rattle.psl.specs.Proof.Decide.Tells.{any, tells-eq, tells-or, tells-and, tells-value, tells-any}
+use Rattle.psl.specs.Tells.{any, tells-eq, tells-or, tells-and, tells-value, tells-any}
 use Rattle.psl.specs.Proof.Model.Machine.{machine}
 use Rattle.psl.specs.Proof.Model.Monitor.{setsAfter}
 use Rattle.lanes.specs.Bits.{tells-same, bit-on}

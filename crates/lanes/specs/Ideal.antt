@@ -7,7 +7,7 @@ use mathlib.Core.Bool.{Bool, true, false, _&&_, _||_}
 use mathlib.Core.Logic.{_⊎_, inl, inr, ⊎-elim}
 use lib.Dec.{eqb}
 use Rattle.psl.specs.Booleans.{Boolean, Letter}
-use Rattle.psl.specs.Proof.Decide.Tells.{Tells, does, doesnt, tells-eq, tells-and, tells-or, tells-value, tells-true, true-tells, tells-no}
+use Rattle.psl.specs.Tells.{Tells, does, doesnt, tells-eq, tells-and, tells-or, tells-value, tells-true, true-tells, tells-no}
 use Rattle.lanes.specs.Rows.{Row, r-bool, r-then, r-fuse, r-alt, r-star, r-plus, r-weak, r-left, r-rest, Has, Sound, Two, One, two-then, two-fuse, two-alt, one-star, one-plus, one-weak, one-left}
 use Rattle.lanes.specs.Expected.{Table}
 use Rattle.lanes.specs.UpPass.{Part, choose, then-part, fuse-part, alt-part, loop-part, operand-by, operand, RowPart}

@@ -13,7 +13,7 @@ use Rattle.psl.specs.Proof.Marks.Automaton.{Marks, gate, first, step}
 use Rattle.psl.specs.Proof.Marks.Feed.{any}
 use Rattle.psl.specs.Proof.Marks.Masks.{cells}
 use Rattle.psl.specs.Proof.Marks.Linear.{join-empty-r, join-empty-l}
-use Rattle.psl.specs.Proof.Decide.Tells.{tells-eq, tells-value, tells-no}
+use Rattle.psl.specs.Tells.{tells-eq, tells-value, tells-no}
 use Rattle.lanes.specs.Bits.{tells-same}
 use Rattle.lanes.specs.OneLane.{fed, next, ended-is, next-top}
 use Rattle.lanes.specs.CellSets.{fill, own, fill-same, at, at-out, fill-at, own-high}

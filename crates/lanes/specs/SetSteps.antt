@@ -12,7 +12,7 @@ use Rattle.psl.specs.Sequences.{Sequence}
 use Rattle.psl.specs.Proof.Marks.Automaton.{empty, join, gate, step}
 use Rattle.psl.specs.Proof.Marks.Masks.{cells}
 use Rattle.psl.specs.Proof.Marks.Linear.{step-join, step-empty}
-use Rattle.psl.specs.Proof.Decide.Tells.{any, Tells, does, doesnt, tells-eq, tells-or, tells-lt}
+use Rattle.psl.specs.Tells.{any, Tells, does, doesnt, tells-eq, tells-or, tells-lt}
 use Rattle.lanes.specs.Bits.{tells-same}
 use Rattle.lanes.specs.CellSets.{fill, own, fill-same, fill-or, fill-none, fill-gate}
 

@@ -9,7 +9,7 @@ use Rattle.psl.specs.Booleans.{Letter}
 use Rattle.psl.specs.Sequences.{Sequence}
 use Rattle.psl.specs.Proof.Marks.Automaton.{empty}
 use Rattle.psl.specs.Proof.Marks.Linear.{step-empty}
-use Rattle.psl.specs.Proof.Decide.Tells.{Tells, does, doesnt, tells-lt}
+use Rattle.psl.specs.Tells.{Tells, does, doesnt, tells-lt}
 use Rattle.lanes.specs.OneLane.{ends, ends-is}
 use Rattle.lanes.specs.CellSets.{own, own-low, own-shift}
 

@@ -10,7 +10,7 @@ use Rattle.psl.specs.Proof.Marks.Automaton.{Marks, empty, join, first}
 use Rattle.psl.specs.Proof.Marks.Feed as Feed
 use Rattle.psl.specs.Proof.Marks.Masks.{cells, mask, unmask}
 use Rattle.psl.specs.Proof.Marks.Linear.{two}
-use Rattle.psl.specs.Proof.Decide.Tells.{any}
+use Rattle.psl.specs.Tells.{any}
 use Rattle.psl.specs.Proof.Model.Nodes.{Node, n-weak, n-never, n-suffix, n-suffix-next}
 use Rattle.psl.specs.Proof.Model.Auto.{feed}
 use Rattle.psl.specs.Proof.Model.Machine.{machine, back}

@@ -9,7 +9,7 @@ use Rattle.psl.specs.Proof.Marks.Automaton.{Marks, empty, step}
 use Rattle.psl.specs.Proof.Marks.Feed as Feed
 use Rattle.psl.specs.Proof.Marks.Masks.{cells, mask}
 use Rattle.psl.specs.Proof.Marks.Linear.{step-empty, join-empty-r}
-use Rattle.psl.specs.Proof.Decide.Tells.{any, tells-any, tells-and, tells-value, tells-eq, tells-true, tells-no, tells-T}
+use Rattle.psl.specs.Tells.{any, tells-any, tells-and, tells-value, tells-eq, tells-true, tells-no, tells-T}
 use Rattle.psl.specs.Proof.Model.Nodes.{Node, n-bool, n-weak, n-never, n-both, n-next, n-always, n-if-else, n-implies, n-or, n-until, n-suffix, n-suffix-next}
 use Rattle.psl.specs.Proof.Model.Step.{keeps}
 use Rattle.psl.specs.Proof.Model.Auto.{feed}

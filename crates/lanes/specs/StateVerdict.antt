@@ -12,7 +12,7 @@ use Rattle.psl.specs.Sequences.{Sequence}
 use Rattle.psl.specs.Proof.Marks.Automaton.{empty}
 use Rattle.psl.specs.Proof.Marks.Feed as Feed
 use Rattle.psl.specs.Proof.Marks.Masks.{cells, mask, unmask, mask-empty}
-use Rattle.psl.specs.Proof.Decide.Tells.{Tells, any, tells-any, tells-and, tells-or, tells-not, tells-not-value, tells-value, tells-T, tells-true, true-tells, tells-no}
+use Rattle.psl.specs.Tells.{Tells, any, tells-any, tells-and, tells-or, tells-not, tells-not-value, tells-value, tells-T, tells-true, true-tells, tells-no}
 use Rattle.psl.specs.Proof.Model.Nodes.{Node, n-bool, n-weak, n-never, n-both, n-next, n-always, n-if-else, n-implies, n-or, n-until, n-suffix, n-suffix-next}
 use Rattle.psl.specs.Proof.Model.Judge.{breaksAt}
 use Rattle.psl.specs.Proof.Model.Machine.{machine, back, any-empty}

@@ -10,7 +10,7 @@ use Rattle.psl.specs.Booleans.{Boolean, Letter, satisfies}
 use Rattle.psl.specs.Sequences.{Sequence, cell, then, fuse, alt, star, plus}
 use Rattle.psl.specs.Proof.Marks.Automaton.{Marks, nullable}
 use Rattle.psl.specs.Proof.Marks.Masks.{cells}
-use Rattle.psl.specs.Proof.Decide.Tells.{Tells, does, doesnt, tells-eq, tells-no, true-tells, tells-lt}
+use Rattle.psl.specs.Tells.{Tells, does, doesnt, tells-eq, tells-no, true-tells, tells-lt}
 use Rattle.lanes.specs.OneLane.{early, ends, early-then, early-fuse}
 use Rattle.lanes.specs.CellSets.{own}
 use Rattle.lanes.specs.ShiftedLanes.{shifted, Cap, exact, over, lane-shift}

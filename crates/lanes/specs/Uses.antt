@@ -12,7 +12,7 @@ use Rattle.psl.specs.Proof.Marks.Automaton.{Marks, nullable}
 use Rattle.psl.specs.Proof.Marks.Words.{or-l, or-r}
 use Rattle.psl.specs.Proof.Marks.Feed.{any}
 use Rattle.psl.specs.Proof.Marks.Masks.{cells}
-use Rattle.psl.specs.Proof.Decide.Tells.{tells-no, true-tells, tells-lt}
+use Rattle.psl.specs.Tells.{tells-no, true-tells, tells-lt}
 use Rattle.lanes.specs.OneLane.{ends, ended, next}
 use Rattle.lanes.specs.CellSets.{fill, own, own-high}
 use Rattle.lanes.specs.ShiftedLanes.{ends-empty, Cap, exact, over, lane-shift}

@@ -5,7 +5,7 @@ use mathlib.Core.Path.{_≡_, sym, _∙_, subst}
 use mathlib.Core.Bool.{Bool, true, false}
 use mathlib.Core.List.{List}
 use lib.Dec.{T}
-use Rattle.psl.specs.Proof.Decide.Tells.{Tells, tells-true, true-tells}
+use Rattle.psl.specs.Tells.{Tells, tells-true, true-tells}
 use Rattle.words.specs.Sets.{HasFrom}
 use Rattle.monitor.specs.declared.Verdict.{Verdict}
 use Rattle.monitor.specs.declared.Verdict.the-variants.{Broken, Settled, Pending}

@@ -7,8 +7,7 @@ use mathlib.Core.List.{List, [], _∷_, _++_}
 use lib.Dec.{eqb}
 use lib.ListN.{length}
 use Rattle.psl.specs.Booleans.{bit}
-use Rattle.psl.specs.Verdicts.{pending, Right}
-use Rattle.psl.specs.Proof.Model.Verdicts.{judged}
+use Rattle.psl.specs.Verdicts.{pending, Right, judged}
 use Rattle.table.specs.Trees.{propertyAt}
 use Rattle.words.specs.Bits.{bit-none}
 use Rattle.words.specs.Sets.{WithBit}

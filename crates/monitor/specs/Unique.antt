@@ -8,7 +8,7 @@ use mathlib.Core.List.{List}
 use lib.ListN.{length}
 use Rattle.psl.specs.Verdicts.{pending, Right}
 use Rattle.psl.specs.Laws.{one-verdict}
-use Rattle.psl.specs.Proof.Decide.Tells.{tells-dec}
+use Rattle.psl.specs.Tells.{tells-dec}
 use Rattle.table.specs.Trees.{propertyAt}
 use Rattle.table.specs.Check.{checkOf}
 use Rattle.table.specs.declared.Counts.{Counts}

@@ -15,7 +15,7 @@ use Rattle.psl.specs.Verdicts.{broken, Right}
 use Rattle.psl.specs.Laws.{empty-breaks-nothing, empty-secures-nothing}
 use Rattle.psl.specs.Proof.Attempts.Same.{continues-open, open-continues}
 use Rattle.psl.specs.Proof.Attempts.OneMore.{one-more, one-less, more-hit, hit-less, top-more, top-less, more-open, hit-open, open-less}
-use Rattle.psl.specs.Proof.Decide.Tells.{any}
+use Rattle.psl.specs.Tells.{any}
 use Rattle.psl.specs.Proof.Decide.Verdicts.{right-of}
 
 -- "r |=> f as {r ; true} |-> f", to break and to secure.

@@ -8,7 +8,7 @@ use mathlib.Core.Path.{_≡_, refl, sym, ap, subst}
 use lib.Dec.{leb, leb→le, le→leb}
 use borrow.Author.Tests.{le-leb}
 use lib.ListN.{length}
-use Rattle.psl.specs.Proof.Decide.Tells.{Tells, does, doesnt, tells-and, tells-iff, tells-true, tells-eq, tells-T}
+use Rattle.psl.specs.Tells.{Tells, does, doesnt, tells-and, tells-iff, tells-true, tells-eq, tells-T}
 use Rattle.words.specs.Sets.{HasFrom}
 use Rattle.words.specs.Ends.{has-from}
 use Rattle.little.specs.Bytes.{u16At, u32At}

@@ -12,7 +12,7 @@ use lib.Pow.{shl-exact, pow-lt, pow-pos}
 use borrow.Author.Tests.{lt-ltb, lt-leb, le-leb, eq-eqb, ne-eqb}
 use mir.Val.{boolByte}
 use Rattle.psl.specs.Booleans.{bit}
-use Rattle.psl.specs.Proof.Decide.Tells.{Tells, doesnt}
+use Rattle.psl.specs.Tells.{Tells, doesnt}
 use Rattle.words.specs.Sets.{WithBit, WithoutBit, HasFrom, Lowest, Highest, Without}
 use Rattle.words.specs.Bits.{bit-none, bit-on, bit-one, bit-and, bit-not, set-below, fewer-bits}
 use Rattle.words.specs.Unique.{lowest-one, highest-one}

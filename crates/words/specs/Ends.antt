@@ -13,7 +13,7 @@ use lib.Ieee.Digits.{size-lt}
 use lib.Pow.{pow-pos, pow-lt, ones-lt, high}
 use borrow.Author.Tests.{eq-eqb, ne-eqb, eqb-true, le-leb, lt-leb}
 use Rattle.psl.specs.Booleans.{bit}
-use Rattle.psl.specs.Proof.Decide.Tells.{Tells, does, doesnt}
+use Rattle.psl.specs.Tells.{Tells, does, doesnt}
 use Rattle.words.specs.Sets.{HasFrom, Lowest, Highest}
 use Rattle.words.specs.Bits.{bit-none, bit-high, set-below, bit-one, bit-shl-low, bit-shr, bit-beside}
 

@@ -9,7 +9,7 @@ use mathlib.Core.Bool.{Bool, true, false}
 use lib.Dec.{T}
 use lib.Pow.{pow-mono}
 use Rattle.psl.specs.Booleans.{bit}
-use Rattle.psl.specs.Proof.Decide.Tells.{Tells, tells-true, tells-false}
+use Rattle.psl.specs.Tells.{Tells, tells-true, tells-false}
 use Rattle.words.specs.Bits.{same-bits}
 use Rattle.words.specs.Ends.{lowest-is, highest-is, highest-none}
 use Rattle.words.specs.Sets.{WithBit, WithoutBit, HasFrom, Lowest, Highest, Without}

@@ -2,7 +2,7 @@
 ghost use mathlib.Core.Path.{_≡_};
 ghost use Prim.Native.Nat.{_%_};
 ghost use Rattle.psl.specs.Booleans.{bit};
-ghost use Rattle.psl.specs.Proof.Decide.Tells.{Tells};
+ghost use Rattle.psl.specs.Tells.{Tells};
 ghost use Rattle.words.specs.Sets.{WithBit, WithoutBit, HasFrom, Lowest, Highest, Without};
 
 // Whether a number is in the word.

@@ -1,6 +1,6 @@
 use mathlib.Core.Bool.{false}
 use borrow.Author.Needs.{needs}
-use Rattle.psl.specs.Proof.Decide.Tells.{tells-true}
+use Rattle.psl.specs.Tells.{tells-true}
 use Rattle.engine.specs.Goes.{right-by, unsaid}
 use Rattle.engine.proofs.CycleLaws.{covered, no-rows}
 use Rattle.engine.proofs.cycle.cycle.Statement.{statement}

@@ -1,5 +1,5 @@
 use borrow.Author.Needs.{needs}
-use Rattle.psl.specs.Proof.Decide.Tells.{tells-and, tells-eq}
+use Rattle.psl.specs.Tells.{tells-and, tells-eq}
 use Rattle.engine.proofs.cycle.is_there.Statement.{statement}
 use Rattle.engine.proofs.cycle.is_there.Tie as tie
 
