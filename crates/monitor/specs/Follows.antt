@@ -1,10 +1,11 @@
--- What a monitor has been fed, and what a step does.
-use Prim.Native.Nat.{ℕ, _<_}
+-- What a step does: 13; then a verdict already given is repeated; then 14; else the new verdict. A refusal and a repeated verdict leave the monitor as it was.
+use Prim.Native.Nat.{ℕ, _≤_, _<_}
 use mathlib.Core.Path.{_≡_}
 use mathlib.Core.List.{List, [], _∷_, _++_}
 use lib.ListN.{length}
 use Rattle.psl.specs.Verdicts.{broken, settled, pending, Right}
 use Rattle.psl.specs.Verdicts as Psl
+use Rattle.table.specs.Reply.{Reply, refused, granted}
 use Rattle.table.specs.Trees.{propertyAt}
 use Rattle.monitor.specs.declared.Verdict.{Verdict}
 use Rattle.monitor.specs.declared.Verdict.the-variants.{Broken, Settled, Pending}
@@ -19,6 +20,7 @@ use Rattle.little.specs.Bytes.{byteAt}
 use Rattle.words.specs.Sets.{HasFrom}
 use Rattle.engine.specs.CycleRight.{Represented}
 use Rattle.engine.specs.Goes.{Goes, keptAfter}
+use Rattle.monitor.specs.Opens.{countLimit, GoesOn}
 
 -- The verdict, as document 01 has it.
 abbrev pub verdictOf : Verdict → Psl.Verdict
@@ -26,24 +28,23 @@ verdictOf (Broken n) = broken n
 verdictOf (Settled n) = settled n
 verdictOf (Pending n) = pending n
 
+-- Document 01's number and values for each case of an answer.
+abbrev pub answerReply : Answer → Reply Psl.Verdict
+answerReply (Refused r) = refused (r .number) (r .place)
+answerReply (Given verdict) = granted (verdictOf verdict)
+
 abbrev pub goingOf : Verdict → Going
 goingOf (Broken n) = Over
 goingOf (Settled n) = Over
 goingOf (Pending n) = After n
 
--- A property stands so after the samples v: its verdict is right, and while it is pending it goes on.
-pub data Stood (t : List ℕ) (root booleans sides weaks : ℕ) (v : List ℕ) (held live-a live-b : ℕ) (families : List ℕ) : Verdict → Type 0 where
-  stood-broken : {n : ℕ} → Right (propertyAt t root) v (broken n) → Stood t root booleans sides weaks v held live-a live-b families (Broken n)
-  stood-settled : {n : ℕ} → Right (propertyAt t root) v (settled n) → Stood t root booleans sides weaks v held live-a live-b families (Settled n)
-  stood-pending : {n : ℕ} → n ≡ length v → Right (propertyAt t root) v (pending (length v)) → Goes t root booleans sides weaks v held live-a live-b families
-      → Stood t root booleans sides weaks v held live-a live-b families (Pending n)
-
 -- The first signal number that is none: S, as the table's header has it.
 abbrev pub signalsOf : List ℕ → ℕ
 signalsOf t = byteAt t 2
 
-abbrev pub refusal : ℕ → Answer
-refusal number = Refused (record { number = number; place = 0 })
+-- "a sample sets a bit S or above"
+abbrev pub Undeclared : List ℕ → ℕ → Type 0
+Undeclared t x = HasFrom x (signalsOf t)
 
 -- One sample more of a property that is pending and goes on: its verdict is right for the samples fed and this one, and the words hold what is then kept.
 pub record Turns {t : List ℕ} {root booleans sides weaks : ℕ} {v : List ℕ} {held live-a live-b : ℕ} {families : List ℕ} (g : Goes t root booleans sides weaks v held live-a live-b families)
@@ -51,29 +52,27 @@ pub record Turns {t : List ℕ} {root booleans sides weaks : ℕ} {v : List ℕ}
   pub right : Right (propertyAt t root) (v ++ x ∷ []) (verdictOf d)
   pub keeps : Represented t weaks (keptAfter g x) held′ live-a′ live-b′ families′
 
--- A step from n cycles read, where one more can be counted: the answer is the new verdict.
-pub record Advances (t : List ℕ) (before : Monitor) (n x : ℕ) (answer : Answer) (after : Monitor) : Type 0 where
-  pub answers : answer ≡ Given (after .stand .verdict)
+-- A step from n cycles read, where one more can be counted: the reply is the new verdict.
+pub record Advances (t : List ℕ) (before : Monitor) (n x : ℕ) (reply : Reply Psl.Verdict) (after : Monitor) : Type 0 where
+  pub replies : reply ≡ granted (verdictOf (after .stand .verdict))
   pub plan-stays : after .plan ≡ before .plan
   pub turns : (v : List ℕ) → n ≡ length v → Right (propertyAt t (before .plan .root)) v (pending (length v))
-      → (g : Goes t (before .plan .root) (before .plan .booleans) (before .plan .sides) (before .plan .weaks) v (before .stand .expected .held) (before .stand .expected .live .a)
-      (before .stand .expected .live .b) (before .families))
-      → Turns g x (after .stand .verdict) (after .stand .expected .held) (after .stand .expected .live .a) (after .stand .expected .live .b) (after .families)
+      → (g : GoesOn t v before) → Turns g x (after .stand .verdict) (after .stand .expected .held) (after .stand .expected .live .a) (after .stand .expected .live .b) (after .families)
 
 -- The monitor of these parts.
 abbrev pub monitorOf : Plan → Stand → List ℕ → Monitor
 monitorOf plan stand families = record { plan = plan; stand = stand; families = families }
 
--- A declared sample: a verdict already given is repeated; else one cycle more, up to the count limit.
-abbrev pub DeclaredStep : List ℕ → Monitor → ℕ → Answer → Monitor → Verdict → Type 0
-DeclaredStep t before x answer after (Broken n) = (answer ≡ Given (Broken n)) × (after ≡ before)
-DeclaredStep t before x answer after (Settled n) = (answer ≡ Given (Settled n)) × (after ≡ before)
-DeclaredStep t before x answer after (Pending n) = (n ≡ 4294967295 → (answer ≡ refusal 14) × (after ≡ before)) × (n < 4294967295 → Advances t before n x answer after)
+-- A declared sample, by the verdict that stands: "then a verdict already given is repeated, state unchanged; then 14"; else one cycle more.
+abbrev pub DeclaredStep : List ℕ → Monitor → ℕ → Reply Psl.Verdict → Monitor → Verdict → Type 0
+DeclaredStep t before x reply after (Broken n) = (reply ≡ granted (broken n)) × (after ≡ before)
+DeclaredStep t before x reply after (Settled n) = (reply ≡ granted (settled n)) × (after ≡ before)
+DeclaredStep t before x reply after (Pending n) = (countLimit ≤ n → (reply ≡ refused 14 0) × (after ≡ before)) × (n < countLimit → Advances t before n x reply after)
 
-pub record DeclaredIs (t : List ℕ) (before : Monitor) (x : ℕ) (answer : Answer) (after : Monitor) : Type 0 where
-  pub steps : DeclaredStep t before x answer after (before .stand .verdict)
+pub record DeclaredIs (t : List ℕ) (before : Monitor) (x : ℕ) (reply : Reply Psl.Verdict) (after : Monitor) : Type 0 where
+  pub steps : DeclaredStep t before x reply after (before .stand .verdict)
 
-pub record StepIs (t : List ℕ) (before : Monitor) (x : ℕ) (answer : Answer) (after : Monitor) : Type 0 where
-  -- "refusal 13 if the sample sets a bit S or above", also after a verdict
-  pub undeclared : HasFrom x (signalsOf t) → (answer ≡ refusal 13) × (after ≡ before)
-  pub declared : ¬ HasFrom x (signalsOf t) → DeclaredStep t before x answer after (before .stand .verdict)
+-- "A single cycle: 13", also after a verdict; then as a declared sample
+pub record StepIs (t : List ℕ) (before : Monitor) (x : ℕ) (reply : Reply Psl.Verdict) (after : Monitor) : Type 0 where
+  pub undeclared : Undeclared t x → (reply ≡ refused 13 0) × (after ≡ before)
+  pub declared : ¬ Undeclared t x → DeclaredStep t before x reply after (before .stand .verdict)

@@ -50,9 +50,9 @@ nothing-kept t weaks = record {
     dark n false = bit-none n
     dark n true = bit-none n
 
-pub opened : (t : List ℕ) (c : Counts) (z : Subset t c) (root booleans sides weaks : ℕ) → Planned t root booleans sides weaks → root < c .nodes → ¬ (classOf (kindAt t root) ≡ Sequence)
+pub begins : (t : List ℕ) (c : Counts) (z : Subset t c) (root booleans sides weaks : ℕ) → Planned t root booleans sides weaks → root < c .nodes → ¬ (classOf (kindAt t root) ≡ Sequence)
     → Goes t root booleans sides weaks [] 0 0 0 (replicate 32 0)
-opened t c z root booleans sides weaks p low no-sequence = record {
+begins t c z root booleans sides weaks p low no-sequence = record {
   counts = c;
   subset = z;
   plan = p;

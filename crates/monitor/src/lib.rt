@@ -4,13 +4,13 @@ ghost use mathlib.Core.List.{List};
 ghost use Prim.Native.Nat.{ℕ, _<_};
 ghost use lib.ListN.{length};
 ghost use Rattle.psl.specs.Verdicts.{pending, Right, judged};
+ghost use Rattle.table.specs.Reply.{refused, granted};
 ghost use Rattle.table.specs.Trees.{propertyAt};
-ghost use Rattle.table.specs.Check.{checkOf};
+ghost use Rattle.table.specs.Check.{checkedReply};
 ghost use Rattle.table.specs.Subset.{Subset};
 ghost use Rattle.table.specs.declared.Counts.{Counts};
-ghost use Rattle.monitor.specs.declared.Turned.the-variants.{Away, In};
-ghost use Rattle.monitor.specs.Opens.{Fresh, noPlan, Ready, refusalOf, OpenIs};
-ghost use Rattle.monitor.specs.Follows.{verdictOf, refusal, goingOf, monitorOf, Turns, Advances, DeclaredIs, StepIs};
+ghost use Rattle.monitor.specs.Opens.{countLimit, noPlan, Blank, Shut, Ready, OpenIs};
+ghost use Rattle.monitor.specs.Follows.{verdictOf, answerReply, goingOf, monitorOf, Turns, Advances, DeclaredIs, StepIs};
 ghost use Rattle.engine.specs.Goes.{Goes};
 
 pub mod entry;
@@ -21,6 +21,7 @@ use engine::cycle::Outcome;
 use engine::plan::Plan;
 pub use entry::advance;
 use table::Checked;
+use table::Counts;
 use table::Refusal;
 
 // A verdict: broken or settled with its cycle, or pending with the cycles read.
@@ -40,7 +41,32 @@ pub struct Stand {
 pub struct Monitor {
     pub plan: Plan,
     pub stand: Stand,
-    pub families: [u64; 32],
+    pub families: [u64; Monitor::FAMILIES],
+}
+
+impl Monitor {
+    // The most cycles that are counted.
+    pub const CYCLES: u32 = 4_294_967_295;
+
+    // The most weak sequences of a property, each with its family.
+    pub const FAMILIES: usize = 32;
+
+    // A monitor that expects nothing, pending after so many cycles.
+    pub fn new(plan: Plan, cycles: u32) -> Monitor
+        ensures { λ r. ⌜ Blank plan cycles r ⌝ }
+    {
+        let live = Live { a: 0, b: 0 };
+        let expected = Expected { held: 0, live };
+        let stand = Stand {
+            verdict: Verdict::Pending(cycles),
+            expected,
+        };
+        Monitor {
+            plan,
+            stand,
+            families: [0u64; Monitor::FAMILIES],
+        }
+    }
 }
 
 // The answer of a step: a refusal, or the verdict.
@@ -54,32 +80,10 @@ pub struct Stepped {
     pub monitor: Monitor,
 }
 
-// The answer of opening, beside the monitor.
-pub enum Turned {
-    Away(Refusal),
-    In,
-}
-
+// The answer of opening is that of the check, with one refusal more; the monitor stands beside it.
 pub struct Opened {
-    pub turned: Turned,
+    pub answer: Checked,
     pub monitor: Monitor,
-}
-
-// A monitor that has read nothing.
-fn fresh(plan: Plan) -> Monitor
-    ensures { λ r. ⌜ Fresh plan r ⌝ }
-{
-    let live = Live { a: 0, b: 0 };
-    let expected = Expected { held: 0, live };
-    let stand = Stand {
-        verdict: Verdict::Pending(0),
-        expected,
-    };
-    Monitor {
-        plan,
-        stand,
-        families: [0u64; 32],
-    }
 }
 
 // The plan of no property.
@@ -94,55 +98,43 @@ fn no_plan() -> Plan
     }
 }
 
-fn not_opened(refusal: Refusal) -> Opened
-    ensures { λ r. ⌜ (r .turned ≡ Away refusal) × Fresh noPlan (r .monitor) ⌝ }
+// A refused opening: its monitor stands at the count limit, so that no step of it gives a verdict.
+fn not_opened(answer: Checked) -> Opened
+    ensures { λ r. ⌜ (r .answer ≡ answer) × Shut (r .monitor) ⌝ }
 {
     Opened {
-        turned: Turned::Away(refusal),
-        monitor: fresh(no_plan()),
+        answer,
+        monitor: Monitor::new(no_plan(), Monitor::CYCLES),
     }
 }
 
-// A property of an accepted table of so many nodes.
-fn opening(table: &[u8], nodes: u8, property: u8) -> Opened
-    ensures { λ r. ⌜ (r .turned ≡ In) × Fresh (r .monitor .plan) (r .monitor) ⌝ }
-    ensures { λ r. ⌜ ((counts : Counts) → Subset (now (table .entry)) counts → nodes ≡ counts .nodes → property < counts .properties → Ready (now (table .entry)) counts property (r .monitor)) ⌝ }
+// A property of an accepted table.
+fn opening(table: &[u8], counts: Counts, property: u8) -> Opened
+    ensures { λ r. ⌜ (checkedReply (r .answer) ≡ granted counts) × Blank (r .monitor .plan) 0 (r .monitor) ⌝ }
+    ensures { λ r. ⌜ (Subset (now (table .entry)) counts → property < counts .properties → Ready (now (table .entry)) counts property (r .monitor)) ⌝ }
 {
-    let root = (table::roots::root_at(table, nodes, property) % 256) as u8;
+    let root = (table::roots::root_at(table, counts.nodes, property) % 256) as u8;
     Opened {
-        turned: Turned::In,
-        monitor: fresh(engine::plan::planned(table, root)),
+        answer: Checked::Accepted(counts),
+        monitor: Monitor::new(engine::plan::planned(table, root), 0),
     }
-}
-
-// Why a table was refused; number 0 where it was not.
-fn refusal_of(checked: Checked) -> Refusal
-    ensures { λ r. ⌜ r ≡ refusalOf checked ⌝ }
-{
-    let Checked::Refused(refusal) = checked else {
-        return Refusal {
-            number: 0,
-            place: 0,
-        };
-    };
-    refusal
 }
 
 // Refusals 1 to 11, then 12; else a monitor that has read nothing.
 pub fn open(table: &[u8], property: u32) -> Opened
-    ensures { λ r. ⌜ OpenIs (now (table .entry)) property (checkOf (now (table .entry))) (r .turned) (r .monitor) ⌝ }
+    ensures { λ r. ⌜ OpenIs (now (table .entry)) property (checkedReply (r .answer)) (r .monitor) ⌝ }
 {
     let checked = table::check(table);
     let Checked::Accepted(counts) = checked else {
-        return not_opened(refusal_of(checked));
+        return not_opened(checked);
     };
     if (counts.properties as u32) <= property {
-        return not_opened(Refusal {
+        return not_opened(Checked::Refused(Refusal {
             number: 12,
             place: 0,
-        });
+        }));
     }
-    opening(table, counts.nodes, (property % 256) as u8)
+    opening(table, counts, (property % 256) as u8)
 }
 
 // The verdict at cycle n.
@@ -165,9 +157,9 @@ fn turn(
     expected: Expected,
     n: u32,
     sample: u32,
-    families: &mut [u64; 32],
+    families: &mut [u64; Monitor::FAMILIES],
 ) -> Stand
-    requires { ⌜ n < 4294967295 ⌝ }
+    requires { ⌜ n < countLimit ⌝ }
     ensures { λ r. ⌜ ((v : List ℕ) → n ≡ length v → Right (propertyAt (now (table .entry)) (plan .root)) v (pending (length v))
         → (g : Goes (now (table .entry)) (plan .root) (plan .booleans) (plan .sides) (plan .weaks) v (expected .held) (expected .live .a) (expected .live .b) (now (families .entry)))
         → Turns g sample (r .verdict) (r .expected .held) (r .expected .live .a) (r .expected .live .b) (now (families .exit))) ⌝ }
@@ -193,10 +185,10 @@ fn advanced(
     stand: Stand,
     n: u32,
     sample: u32,
-    families: &mut [u64; 32],
+    families: &mut [u64; Monitor::FAMILIES],
 ) -> Told
-    requires { ⌜ n < 4294967295 ⌝ }
-    ensures { λ r. ⌜ Advances (now (table .entry)) (monitorOf plan stand (now (families .entry))) n sample (r .answer) (monitorOf plan (r .stand) (now (families .exit))) ⌝ }
+    requires { ⌜ n < countLimit ⌝ }
+    ensures { λ r. ⌜ Advances (now (table .entry)) (monitorOf plan stand (now (families .entry))) n sample (answerReply (r .answer)) (monitorOf plan (r .stand) (now (families .exit))) ⌝ }
 {
     let expected = stand.expected;
     let after = turn(table, plan, expected, n, sample, &mut *families);
@@ -225,20 +217,20 @@ fn goes_on(verdict: Verdict) -> Going
 
 // A refusal at place 0.
 fn refused(number: u8) -> Answer
-    ensures { λ r. ⌜ r ≡ refusal number ⌝ }
+    ensures { λ r. ⌜ answerReply r ≡ refused number 0 ⌝ }
 {
     Answer::Refused(Refusal { number, place: 0 })
 }
 
-// One declared sample, the families lent: a verdict already given, or refusal 14, or the new verdict.
-pub fn declared_step(
+// One declared sample: a verdict already given, or refusal 14, or the new verdict.
+fn declared_step(
     table: &[u8],
     plan: Plan,
     stand: Stand,
     sample: u32,
-    families: &mut [u64; 32],
+    families: &mut [u64; Monitor::FAMILIES],
 ) -> Told
-    ensures { λ r. ⌜ DeclaredIs (now (table .entry)) (monitorOf plan stand (now (families .entry))) sample (r .answer) (monitorOf plan (r .stand) (now (families .exit))) ⌝ }
+    ensures { λ r. ⌜ DeclaredIs (now (table .entry)) (monitorOf plan stand (now (families .entry))) sample (answerReply (r .answer)) (monitorOf plan (r .stand) (now (families .exit))) ⌝ }
 {
     let verdict = stand.verdict;
     let goes = goes_on(verdict);
@@ -248,7 +240,7 @@ pub fn declared_step(
             stand,
         };
     };
-    if n == 4294967295 {
+    if n == Monitor::CYCLES {
         return Told {
             answer: refused(14),
             stand,
@@ -257,19 +249,32 @@ pub fn declared_step(
     advanced(table, plan, stand, n, sample, &mut *families)
 }
 
-// One sample: refusal 13, or what a declared sample gives.
-pub fn step(table: &[u8], monitor: Monitor, sample: u32) -> Stepped
-    ensures { λ r. ⌜ StepIs (now (table .entry)) monitor sample (r .answer) (r .monitor) ⌝ }
+// One sample, the families lent: refusal 13, or what a declared sample gives.
+pub fn step_lent(
+    table: &[u8],
+    plan: Plan,
+    stand: Stand,
+    sample: u32,
+    families: &mut [u64; Monitor::FAMILIES],
+) -> Told
+    ensures { λ r. ⌜ StepIs (now (table .entry)) (monitorOf plan stand (now (families .entry))) sample (answerReply (r .answer)) (monitorOf plan (r .stand) (now (families .exit))) ⌝ }
 {
     if words::has_from(sample as u64, little::byte_at(table, 2)) {
-        return Stepped {
+        return Told {
             answer: refused(13),
-            monitor,
+            stand,
         };
     }
+    declared_step(table, plan, stand, sample, &mut *families)
+}
+
+// One sample, the monitor by value.
+pub fn step(table: &[u8], monitor: Monitor, sample: u32) -> Stepped
+    ensures { λ r. ⌜ StepIs (now (table .entry)) monitor sample (answerReply (r .answer)) (r .monitor) ⌝ }
+{
     let plan = monitor.plan;
     let mut families = monitor.families;
-    let told = declared_step(table, plan, monitor.stand, sample, &mut families);
+    let told = step_lent(table, plan, monitor.stand, sample, &mut families);
     let answer = told.answer;
     let stand = told.stand;
     Stepped {

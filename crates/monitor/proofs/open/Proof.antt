@@ -6,7 +6,6 @@ use Rattle.monitor.proofs.open.Reads as reads
 use Rattle.monitor.proofs.open.Lts as lts
 use Rattle.monitor.proofs.not_opened.Reads as not-opened-reads
 use Rattle.monitor.proofs.opening.Reads as opening-reads
-use Rattle.monitor.proofs.refusal_of.Reads as refusal-of-reads
 use Rattle.table.proofs.check.Reads as check-reads
 
 -- src/lib.rt:136:9
@@ -21,17 +20,13 @@ enum-known-checked c = search needs
 enum-told : tie.Need-enum-told
 enum-told c = search needs
 
--- src/lib.rt:138:27
-refusal-of-requires : tie.Need-refusal-of-requires
-refusal-of-requires c κs = search needs
-
 -- src/lib.rt:138:9
 not-opened-requires : tie.Need-not-opened-requires
 not-opened-requires c κs = search needs
 
 -- src/lib.rt:138:9
 returns : tie.Need-returns
-returns c = refused-open _ _ _ _ (c .before .before .before .before .check .ensures) _ _ (c .before .before .enum-told .given .1) (c .before .refusal-of .ensures) (c .not-opened .ensures)
+returns c = refused-open _ _ _ _ (c .before .before .before .check .ensures) _ (c .before .enum-told .given .1) (c .not-opened .ensures)
 
 -- src/lib.rt:140:9
 cast-if1 : tie.Need-cast-if1
@@ -55,7 +50,7 @@ opening-requires c κs = search needs
 
 -- src/lib.rt:133:1
 returns-3 : tie.Need-returns-3
-returns-3 c = in-open _ _ _ _ (c .before .before .before .before .before .before .check .ensures) _ (c .before .before .before .before .checked .given .1) (search needs) (c .opening .ensures .0) (c .opening .ensures .1)
+returns-3 c = in-open _ _ (c .opening .result .answer) _ (c .before .before .before .before .before .before .check .ensures) _ (c .before .before .before .before .checked .given .1) (search needs) (c .opening .ensures .0) (c .opening .ensures .1)
 
 pub open-spec : {M : Type 1} → statement M
 open-spec =
@@ -64,7 +59,6 @@ open-spec =
     check-requires
     enum-known-checked
     enum-told
-    refusal-of-requires
     not-opened-requires
     returns
     cast-if1

@@ -13,16 +13,16 @@ cast-root c = search needs
 planned-requires : tie.Need-planned-requires
 planned-requires c κs = search needs
 
-fresh-requires : tie.Need-fresh-requires
-fresh-requires c κs = search needs
+new-requires : tie.Need-new-requires
+new-requires c κs = search needs
 
 returns : tie.Need-returns
 returns c = (
   (refl, search needs),
-  λ counts z nodes low. ready _ _ _ _ (c .fresh .ensures) (c .before .planned .ensures .0) (c .before .planned .ensures .1) counts z _ low
-      (root-byte _ counts z _ _ _ low nodes (c .before .before .root-at .ensures)),
+  λ z low. ready _ _ _ _ (c .new .ensures) (c .before .planned .ensures .0) (c .before .planned .ensures .1) _ z _ low
+      (root-byte _ _ z _ _ low (c .before .before .root-at .ensures)),
 )
 
 pub opening-spec : {M : Type 1} → statement M
 opening-spec =
-    tie.close (tie.spec root-at-requires cast-root planned-requires fresh-requires returns)
+    tie.close (tie.spec root-at-requires cast-root planned-requires new-requires returns)

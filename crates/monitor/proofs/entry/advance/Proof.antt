@@ -42,7 +42,7 @@ use denote.Triple.Clauses.{ensured, lasts}
 use denote.Triple.Table.{entered, cited}
 use denote.Triple.Walked.{says, Stays, stay-ref, stay-none, stay-none-slice, walkOf, AllGo, goes-none, goes-none-slice, goes-ref, Walks, ends-at, walked, walk-meets}
 use denote.Exit.{yes}
-use Rattle.monitor.specs.Follows.{StepIs}
+use Rattle.monitor.specs.Follows.{answerReply, StepIs}
 use Rattle.monitor.specs.declared.Monitor.{Monitor}
 use Rattle.monitor.specs.declared.Stepped.{Stepped}
 use Rattle.monitor.proofs.Stepped as S
@@ -68,7 +68,7 @@ stayed = (stay-none-slice (0 ∷ []) tt (plain (λ _. u8)) yes, (stay-ref (1 ∷
 
 -- what `step` says of its result
 abbrev Said : RefT (List ℕ) → Monitor → ℕ → Stepped → Type 0
-Said s h n r = StepIs (now s) h n (r .answer) (r .monitor)
+Said s h n r = StepIs (now s) h n (answerReply (r .answer)) (r .monitor)
 
 -- the contract that the proof cites
 module _ {M : Type 1} (𝓤 : URA M) (H : Heap 𝓤) (A : Atoms 𝓤) (at-mem : Memory → SProp 𝓤) (run : Routine → Fun 𝓤) where
