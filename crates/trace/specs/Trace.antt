@@ -6,6 +6,10 @@ use mathlib.Core.Path.{_≡_}
 use lib.ListN.{length}
 use Rattle.little.specs.Bytes.{u16At, u32At}
 
+-- "cycles C u32, 0 to 16,381": the most, `Header::CYCLES`
+abbrev pub cyclesMost : ℕ
+cyclesMost = 16381
+
 -- "cycles C u32"
 unfoldable pub cyclesOf : List ℕ → ℕ
 cyclesOf bytes = u32At bytes 4
@@ -30,7 +34,7 @@ pub record RightTrace (S : ℕ) (bytes : List ℕ) : Type 0 where
   -- "signals u16, equal to S"
   pub signals : u16At bytes 2 ≡ S
   -- "cycles C u32, 0 to 16,381"
-  pub cycles : cyclesOf bytes ≤ 16381
+  pub cycles : cyclesOf bytes ≤ cyclesMost
   -- "offset of samples u32 = 12"
   pub offset : u32At bytes 8 ≡ 12
   -- "Length is exactly 12 + 4C"

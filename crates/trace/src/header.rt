@@ -15,6 +15,11 @@ impl Header {
     // The most cycles of a trace.
     pub const CYCLES: u32 = 16_381;
 
+    // The bytes of a header, and of the longest trace.
+    pub const SIZE: u32 = 12;
+
+    pub const BYTES: usize = (Self::SIZE as usize) + 4 * (Self::CYCLES as usize);
+
     // The header that stands at the start of the bytes.
     pub fn new(bytes: &[u8]) -> Self
         ensures { λ r. ⌜ r ≡ headerOf (now (bytes .entry)) ⌝ }
@@ -34,7 +39,7 @@ impl Header {
         (self.version == 1)
             & (self.signals == (signals as u16))
             & (self.cycles <= Self::CYCLES)
-            & (self.offset == 12)
-            & (length == 12 + 4 * (self.cycles as usize))
+            & (self.offset == Self::SIZE)
+            & (length == (Self::SIZE as usize) + 4 * (self.cycles as usize))
     }
 }

@@ -1,13 +1,11 @@
 // Judging a trace: refusals 1 to 11, 12, 15, 13; else the last verdict that an opened monitor gives, fed the samples one by one.
 ghost use mathlib.Core.Path.{_≡_};
-ghost use mathlib.Core.List.{[]};
-ghost use Prim.Native.Nat.{ℕ, _<_};
-ghost use Rattle.table.specs.Check.{checkOf};
+ghost use Prim.Native.Nat.{ℕ, _≤_};
+ghost use Rattle.table.specs.Reply.{granted};
 ghost use Rattle.table.specs.declared.Counts.{Counts};
-ghost use Rattle.table.specs.declared.Checked.the-variants.{Accepted};
-ghost use Rattle.monitor.specs.Fed.{Fed};
-ghost use Rattle.monitor.specs.Follows.{monitorOf, signalsOf};
-ghost use Rattle.trace.specs.Meaning.{Declared};
+ghost use Rattle.monitor.specs.Opens.{OpenIs};
+ghost use Rattle.monitor.specs.Follows.{answerReply, monitorOf};
+ghost use Rattle.trace.specs.Trace.{cyclesOf};
 ghost use Rattle.trace.specs.Judging.{Judged};
 ghost use Rattle.trace.specs.Feeding.{Stepping, Last};
 use crate::reader::Next;
@@ -18,8 +16,8 @@ use engine::plan::Plan;
 use monitor::Answer;
 use monitor::Monitor;
 use monitor::Stand;
-use monitor::Turned;
 use monitor::Verdict;
+use table::Checked;
 
 // How the property stands with the sample at a place.
 fn fed(
@@ -28,7 +26,7 @@ fn fed(
     at: u32,
     plan: Plan,
     stand: Stand,
-    families: &mut [u64; 32],
+    families: &mut [u64; Monitor::FAMILIES],
 ) -> Stand
     ensures { λ r. ⌜ Stepping (now (table .entry)) (now (trace .entry)) at (monitorOf plan stand (now (families .entry))) (monitorOf plan r (now (families .exit))) ⌝ }
 {
@@ -36,13 +34,13 @@ fn fed(
     let Next::Sample(sample) = next else {
         return stand;
     };
-    let told = monitor::declared_step(table, plan, stand, sample, &mut *families);
+    let told = monitor::step_lent(table, plan, stand, sample, &mut *families);
     told.stand
 }
 
-// The verdict after so many samples, all of them declared.
+// The verdict after so many samples.
 fn last(table: &[u8], trace: &[u8], cycles: u32, monitor: Monitor) -> Verdict
-    ensures { λ r. ⌜ (Declared (signalsOf (now (table .entry))) (now (trace .entry)) cycles → Last (now (table .entry)) (now (trace .entry)) monitor cycles r) ⌝ }
+    ensures { λ r. ⌜ (cycles ≤ cyclesOf (now (trace .entry)) → Last (now (table .entry)) (now (trace .entry)) monitor cycles r) ⌝ }
 {
     let plan = monitor.plan;
     let mut stand = monitor.stand;
@@ -55,12 +53,12 @@ fn last(table: &[u8], trace: &[u8], cycles: u32, monitor: Monitor) -> Verdict
     stand.verdict
 }
 
-// An accepted table, and a property of it that was opened.
-fn opened(table: &[u8], trace: &[u8], monitor: Monitor) -> Answer
-    ensures { λ r. ⌜ ((counts : Counts) (property : ℕ) → checkOf (now (table .entry)) ≡ Accepted counts → property < counts .properties → Fed (now (table .entry)) counts property [] monitor
-        → Judged (now (table .entry)) (now (trace .entry)) property r) ⌝ }
+// A property of a table of so many signals that was opened.
+fn opened(table: &[u8], trace: &[u8], signals: u8, monitor: Monitor) -> Answer
+    ensures { λ r. ⌜ ((counts : Counts) (property : ℕ) → signals ≡ counts .signals → OpenIs (now (table .entry)) property (granted counts) monitor
+        → Judged (now (table .entry)) (now (trace .entry)) property (answerReply r)) ⌝ }
 {
-    let checked = check_trace(trace, little::byte_at(table, 2));
+    let checked = check_trace(trace, signals);
     match checked {
         TraceChecked::Refused(refusal) => Answer::Refused(refusal),
         TraceChecked::Accepted(cycles) => Answer::Given(last(table, trace, cycles, monitor)),
@@ -68,13 +66,13 @@ fn opened(table: &[u8], trace: &[u8], monitor: Monitor) -> Answer
 }
 
 pub fn judge(table: &[u8], trace: &[u8], property: u32) -> Answer
-    ensures { λ r. ⌜ Judged (now (table .entry)) (now (trace .entry)) property r ⌝ }
+    ensures { λ r. ⌜ Judged (now (table .entry)) (now (trace .entry)) property (answerReply r) ⌝ }
 {
     let o = monitor::open(table, property);
-    let turned = o.turned;
+    let answer = o.answer;
     let monitor = o.monitor;
-    match turned {
-        Turned::Away(refusal) => Answer::Refused(refusal),
-        Turned::In => opened(table, trace, monitor),
+    match answer {
+        Checked::Refused(refusal) => Answer::Refused(refusal),
+        Checked::Accepted(counts) => opened(table, trace, counts.signals, monitor),
     }
 }

@@ -1,6 +1,6 @@
 // The check of a trace: refusal 15, then 13 at the lowest cycle.
 ghost use mathlib.Core.Path.{_≡_};
-ghost use Rattle.trace.specs.Refusals.{refused, undeclared, declaredOf, checkedTrace};
+ghost use Rattle.trace.specs.Refusals.{refuse, undeclared, declaredOf, traceReply, fileReply};
 use crate::header::Header;
 use crate::samples::sample_at;
 use table::Refusal;
@@ -12,13 +12,13 @@ pub enum TraceChecked {
 }
 
 fn refuse(number: u8, place: u32) -> TraceChecked
-    ensures { λ r. ⌜ r ≡ refused number place ⌝ }
+    ensures { λ r. ⌜ r ≡ refuse number place ⌝ }
 {
     TraceChecked::Refused(Refusal { number, place })
 }
 
 pub fn check_trace(bytes: &[u8], signals: u8) -> TraceChecked
-    ensures { λ r. ⌜ r ≡ checkedTrace signals (now (bytes .entry)) ⌝ }
+    ensures { λ r. ⌜ traceReply r ≡ fileReply signals (now (bytes .entry)) ⌝ }
 {
     let header = Header::new(bytes);
     if header.is_right(signals, bytes.len()) {

@@ -1,6 +1,7 @@
 // The samples of a trace, in the lent bytes.
 ghost use mathlib.Core.Path.{_≡_};
 ghost use Rattle.trace.specs.Trace.{cyclesOf, sampleAt};
+use crate::header::Header;
 
 // The cycles that the header states.
 pub fn cycles_of(bytes: &[u8]) -> u32
@@ -13,5 +14,5 @@ pub fn cycles_of(bytes: &[u8]) -> u32
 pub fn sample_at(bytes: &[u8], index: u32) -> u32
     ensures { λ r. ⌜ r ≡ sampleAt (now (bytes .entry)) index ⌝ }
 {
-    little::u32_in(bytes, 12, index)
+    little::u32_in(bytes, Header::SIZE, index)
 }

@@ -24,13 +24,13 @@ returns : tie.Need-returns
 returns c = no-more _ _ _ _ (sym (c .before .before .next-at .ensures) ∙ c .enum-told .given .1)
 
 -- src/judging.rt:29:9
-declared-step-requires : tie.Need-declared-step-requires
-declared-step-requires c κs = search needs
+step-lent-requires : tie.Need-step-lent-requires
+step-lent-requires c κs = search needs
 
 -- src/judging.rt:22:1
 returns-2 : tie.Need-returns-2
-returns-2 c = one-more _ _ _ _ (sym (c .before .before .before .before .before .before .next-at .ensures) ∙ c .before .before .before .before .next .given .1) (c .before .declared-step .ensures)
+returns-2 c = one-more _ _ _ _ (sym (c .before .before .before .before .before .before .next-at .ensures) ∙ c .before .before .before .before .next .given .1) (c .before .step-lent .ensures)
 
 pub fed-spec : {M : Type 1} → statement M
 fed-spec =
-    tie.close (tie.spec next-at-requires enum-known-next enum-told returns declared-step-requires returns-2)
+    tie.close (tie.spec next-at-requires enum-known-next enum-told returns step-lent-requires returns-2)

@@ -1,8 +1,8 @@
 use Prim.Native.Nat.{_≤_, _-_}
 use native.Mathlib.Omega.{arith}
 use borrow.Author.Needs.{needs}
-use Rattle.monitor.specs.Follows.{monitorOf, signalsOf}
-use Rattle.trace.specs.Meaning.{Declared}
+use Rattle.monitor.specs.Follows.{monitorOf}
+use Rattle.trace.specs.Trace.{cyclesOf}
 use Rattle.trace.specs.Feeding.{FedFrom, fed-none}
 use Rattle.trace.proofs.Feeds.{feed, all-fed}
 use Rattle.trace.proofs.judging.last.Statement.{statement}
@@ -13,7 +13,7 @@ use Rattle.trace.proofs.judging.fed.Reads as fed-reads
 
 abbrev Inv-loop : tie.InvT-loop
 Inv-loop table trace cycles plan stand₀ families₀ at₀ stand families at =
-    (at ≤ cycles) × (Declared (signalsOf table) trace cycles → FedFrom table trace (monitorOf plan stand₀ families₀) at (monitorOf plan stand families))
+    (at ≤ cycles) × (cycles ≤ cyclesOf trace → FedFrom table trace (monitorOf plan stand₀ families₀) at (monitorOf plan stand families))
 
 abbrev μ-loop : tie.MeasureT-loop
 μ-loop table trace cycles plan stand₀ families₀ at₀ stand families at = cycles - at

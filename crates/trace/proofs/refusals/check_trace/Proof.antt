@@ -1,4 +1,5 @@
-use mathlib.Core.Path.{_∙_}
+use mathlib.Core.Path.{_∙_, ap}
+use Rattle.trace.specs.Refusals.{traceReply}
 use Rattle.trace.proofs.Scan.{answer-right, answer-wrong}
 use borrow.Author.Needs.{needs}
 use Rattle.trace.proofs.refusals.check_trace.Statement.{statement}
@@ -17,10 +18,10 @@ refuse-requires : tie.Need-refuse-requires
 refuse-requires c κs = search needs
 
 returns : tie.Need-returns
-returns c = answer-right _ _ _ _ (c .before .before .before .new .ensures) (c .before .before .is-right .ensures) _ (c .before .if1 .taken) (c .declared .ensures)
+returns c = ap traceReply (answer-right _ _ _ _ (c .before .before .before .new .ensures) (c .before .before .is-right .ensures) _ (c .before .if1 .taken) (c .declared .ensures))
 
 returns-2 : tie.Need-returns-2
-returns-2 c = c .refuse .ensures ∙ answer-wrong _ _ _ _ (c .before .before .before .new .ensures) (c .before .before .is-right .ensures) (c .before .if1 .left)
+returns-2 c = ap traceReply (c .refuse .ensures ∙ answer-wrong _ _ _ _ (c .before .before .before .new .ensures) (c .before .before .is-right .ensures) (c .before .if1 .left))
 
 pub check-trace-spec : {M : Type 1} → statement M
 check-trace-spec =
