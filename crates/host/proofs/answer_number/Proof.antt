@@ -1,4 +1,5 @@
 use mathlib.Core.Path.{ap, sym, _∙_}
+use Rattle.monitor.specs.Follows.{answerReply}
 use Rattle.host.specs.Answers.{answerNumber}
 use borrow.Author.Needs.{needs}
 use Rattle.host.proofs.answer_number.Statement.{statement}
@@ -26,7 +27,7 @@ verdict-number-requires c κs = search needs
 
 -- src/lib.rt:46:1
 returns : tie.Need-returns
-returns c = c .refusal-number .ensures ∙ sym (ap answerNumber (c .before .before .answer .given .1))
+returns c = c .refusal-number .ensures ∙ sym (ap (λ x. answerNumber (answerReply x)) (c .before .before .answer .given .1))
 
 -- src/lib.rt:46:1
 returns-2 : tie.Need-returns-2

@@ -1,5 +1,5 @@
 use mathlib.Core.Path.{ap, _∙_}
-use Rattle.table.specs.Check.{answerOf, hostAnswer}
+use Rattle.host.specs.Answers.{checkNumber}
 use borrow.Author.Needs.{needs}
 use Rattle.host.proofs.check.Statement.{statement}
 use Rattle.host.proofs.check.Tie as tie
@@ -18,7 +18,7 @@ table-answer-requires c κs = search needs
 
 -- src/lib.rt:17:1
 returns : tie.Need-returns
-returns c = c .table-answer .ensures ∙ ap (λ x. hostAnswer (answerOf x)) (c .before .check .ensures)
+returns c = c .table-answer .ensures ∙ ap checkNumber (c .before .check .ensures)
 
 pub check-spec : {M : Type 1} → statement M
 check-spec = tie.close (tie.spec check-requires table-answer-requires returns)

@@ -1,5 +1,6 @@
 use mathlib.Core.Path.{ap, sym, _∙_}
-use Rattle.table.specs.Check.{answerOf, hostAnswer}
+use Rattle.table.specs.Check.{checkedReply}
+use Rattle.host.specs.Answers.{checkNumber}
 use borrow.Author.Needs.{needs}
 use Rattle.host.proofs.table_answer.Statement.{statement}
 use Rattle.host.proofs.table_answer.Tie as tie
@@ -25,7 +26,7 @@ refusal-number-requires c κs = search needs
 
 -- src/lib.rt:18:1
 returns-2 : tie.Need-returns-2
-returns-2 c = c .refusal-number .ensures ∙ ap (λ x. hostAnswer (answerOf x)) (sym (c .before .before .checked .given .1))
+returns-2 c = c .refusal-number .ensures ∙ ap (λ x. checkNumber (checkedReply x)) (sym (c .before .before .checked .given .1))
 
 pub table-answer-spec : {M : Type 1} → statement M
 table-answer-spec =

@@ -1,4 +1,5 @@
 use mathlib.Core.Path.{ap, sym}
+use Rattle.monitor.specs.Follows.{verdictOf}
 use Rattle.host.specs.Answers.{verdictNumber}
 use borrow.Author.Needs.{needs}
 use Rattle.host.proofs.verdict_number.Statement.{statement}
@@ -52,15 +53,15 @@ add-result-3 c = search needs
 
 -- src/lib.rt:36:1
 returns : tie.Need-returns
-returns c = sym (ap verdictNumber (c .before .verdict .given .1))
+returns c = sym (ap (λ x. verdictNumber (verdictOf x)) (c .before .verdict .given .1))
 
 -- src/lib.rt:36:1
 returns-2 : tie.Need-returns-2
-returns-2 c = sym (ap verdictNumber (c .before .verdict2 .given .1))
+returns-2 c = sym (ap (λ x. verdictNumber (verdictOf x)) (c .before .verdict2 .given .1))
 
 -- src/lib.rt:36:1
 returns-3 : tie.Need-returns-3
-returns-3 c = sym (ap verdictNumber (c .before .verdict3 .given .1))
+returns-3 c = sym (ap (λ x. verdictNumber (verdictOf x)) (c .before .verdict3 .given .1))
 
 pub verdict-number-spec : {M : Type 1} → statement M
 verdict-number-spec =
