@@ -44,8 +44,8 @@ small-place s = omega (arith, s .place-below)
 
 -- ---- `check`
 
-pub table-small : {t : List ℕ} {number place : ℕ} → tableReply t ≡ refused number place → Small number place
-table-small {t} {number} {place} = by (checkOf t) refl
+pub table-small : (t : List ℕ) {number place : ℕ} → tableReply t ≡ refused number place → Small number place
+table-small t {number} {place} = by (checkOf t) refl
   where
     by : (k : Checked) → checkOf t ≡ k → checkedReply k ≡ refused number place → Small number place
     by (Accepted c) e q = absurd (not-both (sym q))
@@ -60,15 +60,15 @@ zero-accepted t = by (tableReply t) refl
   where
     by : (r : Reply Counts) → tableReply t ≡ r → checkNumber r ≡ 0 → (counts : Counts) × (tableReply t ≡ granted counts)
     by (granted counts) e z = (counts, e)
-    by (refused number place) e z = absurd (omega (arith, small-some (table-small e)))
+    by (refused number place) e z = absurd (omega (arith, small-some (table-small t e)))
 
 pub accepted-zero : (t : List ℕ) (counts : Counts) → tableReply t ≡ granted counts → checkNumber (tableReply t) ≡ 0
 accepted-zero t counts e = ap checkNumber e
 
 -- ---- `judge`
 
-file-small : {S number place : ℕ} (file : List ℕ) → fileReply S file ≡ refused number place → Small number place
-file-small {S} {number} {place} file e = by (answers S file) e
+file-small : (S : ℕ) (file : List ℕ) {number place : ℕ} → fileReply S file ≡ refused number place → Small number place
+file-small S file {number} {place} e = by (answers S file) e
   where
     by : {r : Reply ℕ} → TraceAnswer S file r → r ≡ refused number place → Small number place
     by (wrong n) q = let h = refused-one q in record { number-from = omega (arith, h .0); number-to = omega (arith, h .0); place-below = omega (arith, h .1) }
@@ -78,9 +78,9 @@ file-small {S} {number} {place} file e = by (answers S file) e
     by (right r none) q = absurd (not-both (sym q))
 
 pub judged-small : {t file : List ℕ} {property number place : ℕ} → Judged t file property (refused number place) → Small number place
-judged-small (no-table e) = table-small e
+judged-small {t} (no-table e) = table-small t e
 judged-small (no-property e l) = record { number-from = omega arith; number-to = omega arith; place-below = omega arith }
-judged-small {file = file} (no-trace e l c) = file-small file c
+judged-small {file = file} (no-trace {counts} e l c) = file-small (counts .signals) file c
 
 -- the cycle of a verdict is at most 16,381
 abbrev cycleOf : Verdict → ℕ
