@@ -1,5 +1,6 @@
-//! Decides which monitors are stepped: opened ones, fed every sample of a case, and any others,
-//! of which little is promised but that a step ends.
+//! Decides which monitors are stepped: opened ones, fed every sample of a case; ones whose opening
+//! was refused, which refuse every sample of any table; and any others, of which little is promised
+//! but that a step ends.
 
 use crate::cases::{damaged_case, valid_table, wanted_case};
 use crate::damage_trace::set_high_bits;
