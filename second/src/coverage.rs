@@ -1,23 +1,31 @@
 //! Decides what is counted of the tables and traces in a file, so that whoever runs it sees what
 //! was tried: the kinds that the judged properties reach, left sides that match the empty word,
-//! and the sizes.
+//! steps after a refused opening, and the sizes.
 
 use crate::sequences::Word;
 use crate::table::{self, operands, Table, MOST_NODES};
 use crate::trace::{samples_in, MOST_CYCLES};
 use crate::tree;
-use crate::vectors::{counts, last_verdict, Case, CHECK, STATE, STRAY};
+use crate::vectors::{counts, last_verdict, refusal_number, Case, CHECK, SHUT, STATE, STRAY};
 use std::collections::{BTreeMap, BTreeSet};
 
 const LARGEST_TABLE: usize = 288;
 const LONG: usize = 24;
 const VERY_LONG: usize = 1000;
+/// One more than the highest refusal number.
+const REFUSALS: usize = 16;
 
 #[derive(Default)]
 pub struct Coverage {
     of_kind: BTreeMap<usize, usize>,
     /// Properties with an empty left side of |=>: broken, settled, pending.
     empty_left: [usize; 3],
+    /// Steps after a refused opening, by its number: on its own table, on other ones.
+    shut: [[usize; REFUSALS]; 2],
+    /// Those on other tables that are accepted.
+    shut_accepted: usize,
+    /// How all of them were answered.
+    shut_answers: [usize; REFUSALS],
     full: usize,
     shared: usize,
     no_cycle: usize,
@@ -33,7 +41,7 @@ impl Coverage {
     pub fn count(&mut self, case: &Case, answers: &[u64]) {
         self.largest += (case.table.len() == LARGEST_TABLE) as usize;
         self.too_large += (case.table.len() == LARGEST_TABLE + 1) as usize;
-        if [CHECK, STATE, STRAY].contains(&case.kind) {
+        if [CHECK, STATE, STRAY, SHUT].contains(&case.kind) {
             return;
         }
         let cycles = samples_in(&case.trace).len();
@@ -47,6 +55,18 @@ impl Coverage {
                     self.empty_left[(last_verdict(answers) >> 32) as usize - 1] += 1;
                 }
             }
+        }
+    }
+
+    /// Steps of a monitor whose opening was refused for this reason.
+    pub fn count_shut(&mut self, number: usize, case: &Case, steps: &[u64]) {
+        let is_other = case.kind == SHUT;
+        self.shut[is_other as usize][number] += steps.len();
+        if is_other && table::check(&case.table).is_ok() {
+            self.shut_accepted += steps.len();
+        }
+        for answer in steps.iter().filter_map(|&answer| refusal_number(answer)) {
+            self.shut_answers[answer] += 1;
         }
     }
 
@@ -67,7 +87,15 @@ impl Coverage {
         let mut text = counts("kinds", self.of_kind.iter().map(|(&kind, &count)| (kind, count)));
         let of_verdict = (1..).zip(self.empty_left);
         text += &counts("empty left sides of |=> by verdict", of_verdict);
+        for (name, of) in [
+            ("steps of refused openings by number", self.shut[0]),
+            ("steps of refused openings on other tables by number", self.shut[1]),
+            ("steps of refused openings by answer", self.shut_answers),
+        ] {
+            text += &counts(name, of.into_iter().enumerate());
+        }
         for (name, count) in [
+            ("steps of refused openings on other tables that are accepted", self.shut_accepted),
             ("empty left sides of |=>", self.empty_left.iter().sum()),
             ("shared Booleans", self.shared),
             ("tables of 64 nodes", self.full),

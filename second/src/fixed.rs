@@ -1,6 +1,6 @@
 //! Decides the cases of the fixed file: the small runs of the document and more about left sides,
-//! opening refused for each reason, the count limit and verdicts already given, and some random
-//! cases.
+//! opening refused for each reason, refused samples after a verdict, the count limit and verdicts
+//! already given, two refusals at once, and some random cases.
 
 use crate::draft::Draft;
 use crate::properties::Verdict;
@@ -237,6 +237,45 @@ pub fn judged_run((_, more_rows, samples, _): Run) -> Case {
     Case::judge(table, traces::bytes(3, samples), 0)
 }
 
+/// Samples that are refused after a verdict, which is repeated after them; 8 sets a bit not declared.
+pub const REFUSED_AFTER: [Run; 2] = [
+    ("always a", &[[38, 0, 0, 0]], &[1, 0, 8, 1, 15, 0, MOST], Broken(2)),
+    ("a until b", &[[39, 0, 1, 0]], &[1, 2, 8, 0, 9, 3, MOST], Settled(2)),
+];
+
+/// Of three signals: none, one, the highest, all, the lowest not declared, one of each, all bits.
+const EDGE_SAMPLES: [u32; 7] = [0, 1, 4, 7, 8, 12, MOST];
+
+/// `a until b`, `always a` and `next b`, over three signals.
+pub fn three_properties() -> Vec<u8> {
+    let rows = vec![[3, 0, 0, 0], [3, 1, 0, 0], [39, 0, 1, 0], [38, 0, 0, 0], [34, 1, 0, 0]];
+    Draft { signals: 3, rows, roots: vec![2, 3, 4] }.bytes()
+}
+
+/// Opening refused for each reason, then property 3 of three: each is stepped on its own table and
+/// on an accepted one.
+fn add_refused_openings(random: &mut Random, vectors: &mut Vectors) {
+    let trace = traces::bytes(3, &EDGE_SAMPLES);
+    for number in 1..=monitors::WRONG_PROPERTY {
+        monitors::add_refused_opening(random, vectors, number);
+        vectors.record_other_table(three_properties(), trace.clone());
+    }
+    let not_there = Case::judge(three_properties(), trace.clone(), 3);
+    vectors.record_steps(&Case { kind: STEPS, ..not_there });
+    vectors.record_other_table(judged_run(RUNS[0]).table, trace);
+}
+
+/// Property 3 of three, with a trace of another header, cut, empty, or with a bit not declared: 12
+/// comes before 15 and 13.
+fn add_refused_twice(vectors: &mut Vectors) {
+    let sound = traces::bytes(3, &[1, 3]);
+    let cut = sound[..sound.len() - 1].to_vec();
+    for trace in [traces::bytes(2, &[1, 3]), cut, Vec::new(), traces::bytes(3, &[8])] {
+        let case = Case::judge(three_properties(), trace, 3);
+        vectors.record(&case, case.answer());
+    }
+}
+
 /// A monitor of `always a` at a verdict, and a sample; 8 is one that sets a bit not declared.
 const MOST: u32 = u32::MAX;
 const PLACES: [(Verdict, u32); 12] = [
@@ -273,16 +312,19 @@ pub fn fixed(random: &mut Random, vectors: &mut Vectors) {
         vectors.record(&case, case.answer());
         vectors.record_steps(&Case { kind: STEPS, ..case });
     }
-    for number in 1..=monitors::WRONG_PROPERTY {
-        monitors::add_refused_opening(random, vectors, number);
+    for run in REFUSED_AFTER {
+        vectors.record_steps(&Case { kind: STEPS, ..judged_run(run) });
     }
+    add_refused_openings(random, vectors);
+    add_refused_twice(vectors);
     for at in PLACES {
         vectors.record_stray(&place(at));
     }
     // The runs count as verdicts and as steps, and the random cases come on top of them.
     let (verdicts, steps) = (vectors.verdicts() + 70, vectors.of_kind[STEPS as usize] + 30);
+    let strays = vectors.strays() + 48;
     cases::cases(random, vectors, verdicts, 100);
     cases::checks(random, vectors, 200);
     monitors::steps(random, vectors, steps);
-    monitors::strays(random, vectors, 60);
+    monitors::strays(random, vectors, strays);
 }

@@ -28,11 +28,12 @@ pub fn verdict(table: &Table, property: usize, samples: &[u32]) -> Verdict {
 }
 
 /// The answer to opening, pending after no cycle, and then to each sample. A sample that sets a
-/// bit S or above is refused, and the samples after it are read as if it had not been there.
-pub fn step_answers(table: &[u8], property: u32, samples: &[u32]) -> Vec<u64> {
-    let table = match open(table, property) {
+/// bit S or above is refused, and the samples after it are read as if it had not been there. Where
+/// opening is refused, every sample is.
+pub fn step_answers(bytes: &[u8], property: u32, samples: &[u32]) -> Vec<u64> {
+    let table = match open(bytes, property) {
         Ok(table) => table,
-        Err(refusal) => return vec![refusal_answer(refusal)],
+        Err(refusal) => return shut_answers(refusal_answer(refusal), bytes, samples),
     };
     let is_declared = |sample: &u32| u64::from(*sample) >> table.signals == 0;
     let declared: Vec<u32> = samples.iter().copied().filter(is_declared).collect();
@@ -57,11 +58,31 @@ const ANY: u64 = 4;
 const UNDECLARED: Refusal = Refusal { number: 13, place: 0 };
 const TOO_MANY: Refusal = Refusal { number: 14, place: 0 };
 
+/// Whether a sample sets a bit S or above. S is byte 2 of any bytes, and 0 where they end before it.
+fn sets_undeclared(table: &[u8], sample: u32) -> bool {
+    let signals = table.get(2).copied().unwrap_or(0);
+    signals < 32 && sample >> signals != 0
+}
+
+/// What a monitor whose opening was refused answers to a sample, with its own table or any bytes:
+/// it stands at the count limit, so 13 or else 14, and never a verdict.
+pub fn shut_answer(table: &[u8], sample: u32) -> u64 {
+    refusal_answer(match sets_undeclared(table, sample) {
+        true => UNDECLARED,
+        false => TOO_MANY,
+    })
+}
+
+/// A first answer, and those of a monitor whose opening was refused.
+pub fn shut_answers(first: u64, table: &[u8], samples: &[u32]) -> Vec<u64> {
+    let rest = samples.iter().map(|&sample| shut_answer(table, sample));
+    std::iter::once(first).chain(rest).collect()
+}
+
 /// What is promised of a step from a verdict, whatever monitor it is of and whatever bytes stand
 /// for its table: refusals 13 and 14, a verdict repeated, or a new one at the next cycle.
 pub fn promised_answer(before: u64, table: &[u8], sample: u32) -> u64 {
-    let signals = table.get(2).copied().unwrap_or(0);
-    if signals < 32 && sample >> signals != 0 {
+    if sets_undeclared(table, sample) {
         return refusal_answer(UNDECLARED);
     }
     match (before >> 32, before as u32) {

@@ -34,17 +34,19 @@ second selftest                               run the built-in tests, exit 1 on 
 second cases SEED OUT [VERDICTS [REFUSALS]]   write random cases (20000, 5000)
 second checks SEED OUT [COUNT]                write table checks only (10000)
 second steps SEED OUT [COUNT]                 write answers after every cycle (2000)
-second strays SEED OUT [COUNT]                write steps of any monitors (2000)
+second strays SEED OUT [COUNT]                write steps of any monitors, on any tables (2000)
 second fixed OUT                              write the small runs and other fixed cases
 second replay FILE                            answer a written file again, exit 1 on a difference
 
 SEED is a number, or `fresh` for one from the system; it is printed.
 
 OUT is a sequence of records, numbers little endian:
-  kind u8 (1 check, 2 judge, 3 steps, 4 state, 5 stray), property u32, table length u32,
-  trace length u32, expected answer u64, table bytes, trace bytes;
+  kind u8 (1 check, 2 judge, 3 steps, 4 state, 5 stray, 6 shut), property u32, table length
+  u32, trace length u32, expected answer u64, table bytes, trace bytes;
   kind 3 has the answer to opening as expected answer, and after its trace bytes one u64 for
-  the answer to each sample; kind 4 has the bytes of a monitor there. README.md says more.
+  the answer to each sample; kind 4 has the bytes of a monitor there; kind 6, the last monitor
+  of kind 3 where its opening was refused, has 0 as expected answer, and one u64 for each sample.
+  Steps after a refused opening are answered by refusal 13 or else 14. README.md says more.
 An answer: 2^32 times (0 refused, 1 broken, 2 settled, 3 pending) plus the cycle, or
 65,536 times the refusal number plus the place; 0 for an accepted table.
 ";

@@ -3,7 +3,7 @@
 use crate::states::STATE_BYTES;
 use crate::table::u32_at;
 use crate::trace::samples_in;
-use crate::vectors::{last_verdict, Case, STATE, STEPS};
+use crate::vectors::{last_verdict, Case, SHUT, STATE, STEPS};
 
 const HEADER_BYTES: usize = 21;
 
@@ -28,7 +28,7 @@ fn take_record(rest: &mut &[u8]) -> Result<(Case, Vec<u64>), String> {
     case.table = take(rest, u32_at(header, 5))?.to_vec();
     case.trace = take(rest, u32_at(header, 9))?.to_vec();
     let mut expected = vec![u64_at(header, 13)];
-    if case.kind == STEPS {
+    if [STEPS, SHUT].contains(&case.kind) {
         let cycles = samples_in(&case.trace).len();
         expected.extend(take(rest, 8 * cycles)?.chunks(8).map(|chunk| u64_at(chunk, 0)));
     }

@@ -5,7 +5,7 @@ use crate::draft::Draft;
 use crate::fixed;
 use crate::following::{add_roots, said, Parts};
 use crate::judge;
-use crate::properties::Reading;
+use crate::properties::{Reading, Verdict};
 use crate::random::Random;
 use crate::replay::replay;
 use crate::sequences::Word;
@@ -38,6 +38,8 @@ pub fn run() -> Result<(), String> {
     limits()?;
     example()?;
     refusal_orders()?;
+    refused_openings()?;
+    refused_samples()?;
     written_files()?;
     let mut random = Random::from_seed(1);
     for _ in 0..10_000 {
@@ -115,6 +117,45 @@ fn refusal_orders() -> Result<(), String> {
     expect("15 bytes", judge::check_answer(&[0; 15]), 65_536)?;
     expect("16 bytes", judge::check_answer(&EXAMPLE_TABLE[..16]), 4 * 65_536)?;
     expect("12 before 15", judge::judge_answer(&EXAMPLE_TABLE, &[], 3), 12 * 65_536)
+}
+
+/// After a refused opening a step is refused, by 13 where byte 2 of the bytes given does not
+/// declare the sample, else by 14.
+fn refused_openings() -> Result<(), String> {
+    let refusals = |numbers: &[u64]| numbers.iter().map(|number| 65_536 * number).collect();
+    let cases: [(&[u8], &[u32], &[u64]); 7] = [
+        (&[], &[0, 1, u32::MAX], &[14, 13, 13]),
+        (&[1, 0], &[0, 1], &[14, 13]),
+        (&[1, 0, 3], &[0, 4, 7, 8, u32::MAX], &[14, 14, 14, 13, 13]),
+        (&[1, 0, 0, 1], &[0, 1], &[14, 13]),
+        (&[1, 0, 31], &[u32::MAX >> 1, 1 << 31], &[14, 13]),
+        (&[1, 0, 32], &[0, u32::MAX], &[14, 14]),
+        (&[1, 0, 255], &[0, u32::MAX], &[14, 14]),
+    ];
+    for (bytes, samples, due) in cases {
+        let answers = samples.iter().map(|&sample| judge::shut_answer(bytes, sample));
+        let what = format!("refused opening, {:?} on {:?}", bytes, samples);
+        expect(&what, answers.collect::<Vec<u64>>(), refusals(due))?;
+    }
+    let no_property = judge::step_answers(&EXAMPLE_TABLE, 3, &[0, 7, 8]);
+    expect("property 3 of three", no_property, refusals(&[12, 14, 14, 13]))?;
+    let cut = judge::step_answers(&EXAMPLE_TABLE[..41], 0, &[8, 1]);
+    expect("cut table", cut, refusals(&[4, 13, 14]))?;
+    expect("three properties", fixed::three_properties(), EXAMPLE_TABLE.to_vec())
+}
+
+/// A sample that is not declared is refused before a verdict is repeated.
+fn refused_samples() -> Result<(), String> {
+    let undeclared = 13 * 65_536;
+    for run in fixed::REFUSED_AFTER {
+        let (name, _, samples, verdict) = run;
+        let given = judge::verdict_answer(verdict);
+        let start = [0, 1].map(|cycle| judge::verdict_answer(Verdict::Pending(cycle)));
+        let rest = [given, undeclared, given, undeclared, given, undeclared];
+        let found = judge::step_answers(&fixed::judged_run(run).table, 0, samples);
+        expect(name, found, [&start[..], &rest[..]].concat())?;
+    }
+    Ok(())
 }
 
 /// Files are read back as they were written, and cut ones are noticed.

@@ -1,7 +1,9 @@
 //! Decides how a record of the vector file is written, and keeps the counts that are printed.
 
 use crate::coverage::Coverage;
-use crate::judge::{check_answer, judge_answer, promised_answer, step_answers, PENDING};
+use crate::judge::{
+    check_answer, judge_answer, promised_answer, shut_answers, step_answers, PENDING,
+};
 use crate::states::verdict_of;
 use crate::trace::samples_in;
 
@@ -12,6 +14,10 @@ pub const STEPS: u8 = 3;
 pub const STATE: u8 = 4;
 /// The last monitor that was opened, with another table.
 pub const STRAY: u8 = 5;
+/// The same where its opening was refused: every answer is known.
+pub const SHUT: u8 = 6;
+/// What stands for the answer to opening where nothing is opened.
+const NOT_OPENED: u64 = 0;
 
 /// What a record asks about.
 #[derive(Clone, Default)]
@@ -47,6 +53,7 @@ impl Case {
             STEPS => step_answers(&self.table, self.property, &samples),
             STATE => vec![promised_answer(verdict_of(&self.state), &self.table, samples[0])],
             STRAY => vec![promised_answer(last, &self.table, samples[0])],
+            SHUT => shut_answers(NOT_OPENED, &self.table, &samples),
             _ => vec![self.answer()],
         }
     }
@@ -70,7 +77,7 @@ pub fn last_verdict(answers: &[u64]) -> u64 {
 #[derive(Default)]
 pub struct Vectors {
     pub bytes: Vec<u8>,
-    pub of_kind: [usize; 6],
+    pub of_kind: [usize; 7],
     /// Broken, settled, pending.
     pub of_verdict: [usize; 3],
     /// Verdicts at cycle 3 or later, broken and settled.
@@ -79,8 +86,8 @@ pub struct Vectors {
     accepted: usize,
     /// Answers to opening and to samples.
     step_answers: usize,
-    /// Samples fed to monitors that are not opened on their table.
-    stray_steps: usize,
+    /// Samples fed to monitors of any kind.
+    steps: usize,
     /// The answers of the last monitor that was opened.
     last: Vec<u64>,
     coverage: Coverage,
@@ -104,6 +111,9 @@ impl Vectors {
             self.bytes.extend_from_slice(&answer.to_le_bytes());
         }
         self.bytes.extend_from_slice(&case.state);
+        if ![CHECK, JUDGE].contains(&case.kind) {
+            self.steps += samples_in(&case.trace).len();
+        }
         self.of_kind[case.kind as usize] += 1;
         self.coverage.count(case, answers);
     }
@@ -114,6 +124,9 @@ impl Vectors {
         self.record_all(case, &answers);
         self.step_answers += answers.len();
         self.count(if answers[0] >> 32 == 0 { answers[0] } else { last_verdict(&answers) });
+        if let Some(number) = refusal_number(answers[0]) {
+            self.coverage.count_shut(number, case, &answers[1..]);
+        }
         self.last = answers;
     }
 
@@ -121,7 +134,22 @@ impl Vectors {
     pub fn record_stray(&mut self, case: &Case) {
         let answers = case.answers(last_verdict(&self.last));
         self.record_all(case, &answers);
-        self.stray_steps += samples_in(&case.trace).len();
+    }
+
+    /// The last monitor goes on with another table. Where its opening was refused, for the reason
+    /// that is counted, every answer is known.
+    pub fn record_other_table(&mut self, table: Vec<u8>, trace: Vec<u8>) {
+        let mut case = Case { kind: STRAY, table, trace, ..Case::default() };
+        match self.last.first().and_then(|&answer| refusal_number(answer)) {
+            None => self.record_stray(&case),
+            Some(number) => {
+                case.kind = SHUT;
+                let answers = case.answers(0);
+                self.record_all(&case, &answers);
+                self.step_answers += answers.len() - 1;
+                self.coverage.count_shut(number, &case, &answers[1..]);
+            }
+        }
     }
 
     fn count(&mut self, answer: u64) {
@@ -139,16 +167,22 @@ impl Vectors {
         self.of_verdict.iter().sum()
     }
 
+    /// Monitors that are stepped on another table than they were opened on, or that were not opened.
+    pub fn strays(&self) -> usize {
+        let [.., states, strays, shut] = self.of_kind;
+        states + strays + shut
+    }
+
     pub fn refusals(&self) -> usize {
         self.of_refusal.iter().sum()
     }
 
     pub fn summary(&self, seed: u64) -> String {
-        let [_, checks, judges, steps, states, strays] = self.of_kind;
+        let [_, checks, judges, steps, states, strays, shut] = self.of_kind;
         let [broken, settled, pending] = self.of_verdict;
         let mut text = format!("seed {}\n", seed);
         text += &format!("records check {} judge {} steps {}", checks, judges, steps);
-        text += &format!(" state {} stray {}\n", states, strays);
+        text += &format!(" state {} stray {} shut {}\n", states, strays, shut);
         text += &format!("accepted {}\n", self.accepted);
         text += &format!("verdicts {}\n", self.verdicts());
         text += &format!("broken {} settled {} pending {}\n", broken, settled, pending);
@@ -161,12 +195,12 @@ impl Vectors {
 
     /// What the program `vectors` prints for this file, where no answer differs.
     fn due(&self) -> String {
-        let [_, checks, judges, _, states, strays] = self.of_kind;
+        let [_, checks, judges, _, states, strays, _] = self.of_kind;
         let mut text = format!("due check: {} compared, 0 differ\n", checks);
         text += &format!("due judge: {} compared, 0 differ\n", judges);
         text += &format!("due steps: {} compared, 0 differ\n", self.step_answers);
         text += &format!("due states: {} compared, 0 differ\n", states + strays);
-        text + &format!("due states: {} stepped, all ended\n", self.stray_steps)
+        text + &format!("due advance: {} compared, 0 differ\n", self.steps)
     }
 }
 

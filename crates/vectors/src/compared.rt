@@ -4,6 +4,8 @@ use crate::states::any_step;
 use crate::states::next_state;
 use crate::states::no_monitor;
 use crate::states::steps_on;
+use crate::steps::Watch;
+use crate::steps::fed;
 use crate::steps::steps;
 use crate::tally::Tally;
 use crate::tally::more;
@@ -11,14 +13,14 @@ use crate::tally::say;
 use libc::STDOUT_FILENO;
 use monitor::Monitor;
 
-// The records so far and what was compared of them; the last monitor that was opened; whether there are no more.
+// The records so far and what was compared of them; of the per-cycle entry, by every step; the last monitor that was opened; whether there are no more.
 pub(crate) struct Compared {
     records: u64,
     checks: Tally,
     judged: Tally,
     steps: Tally,
     states: Tally,
-    stepped: u64,
+    lent: Tally,
     last: Monitor,
     pub(crate) ended: bool,
 }
@@ -34,6 +36,8 @@ impl Compared {
 
     const STRAY: u8 = 5;
 
+    const SHUT: u8 = 6;
+
     pub(crate) fn new() -> Self {
         Self {
             records: 0,
@@ -41,7 +45,7 @@ impl Compared {
             judged: Tally::new(),
             steps: Tally::new(),
             states: Tally::new(),
-            stepped: 0,
+            lent: Tally::new(),
             last: no_monitor(),
             ended: false,
         }
@@ -73,21 +77,43 @@ impl Compared {
         self
     }
 
-    fn with_steps(mut self, h: Head, table: &[u8], trace: &[u8]) -> Self {
+    // The last monitor, to be watched.
+    fn watch(self) -> Watch {
+        let m = self.last;
         let t = self.steps;
-        let w = steps(t, self.records, h, table, trace);
-        let compared = w.tally;
-        let monitor = w.monitor;
-        self.steps = compared;
-        self.last = monitor;
+        let l = self.lent;
+        Watch {
+            monitor: m,
+            tally: t,
+            lent: l,
+        }
+    }
+
+    fn with_watched(mut self, w: Watch) -> Self {
+        let m = w.monitor;
+        let t = w.tally;
+        let l = w.lent;
+        self.last = m;
+        self.steps = t;
+        self.lent = l;
         self
+    }
+
+    fn with_steps(self, h: Head, table: &[u8], trace: &[u8]) -> Self {
+        self.with_watched(steps(self.watch(), self.records, h, table, trace))
+    }
+
+    // The last monitor goes on with other bytes; its answers are expected one by one.
+    fn with_shut(self, table: &[u8], trace: &[u8]) -> Self {
+        self.with_watched(fed(self.watch(), self.records, table, trace))
     }
 
     // One step of any monitor is compared, and the further ones end.
     fn with_any(mut self, h: Head, m: Monitor, table: &[u8], trace: &[u8]) -> Self {
         let t = self.states;
+        let l = self.lent;
         self.states = any_step(t, self.records, h.expected, m, table, trace);
-        self.stepped = steps_on(self.stepped, m, table, trace);
+        self.lent = steps_on(l, self.records, m, table, trace);
         self
     }
 
@@ -110,6 +136,9 @@ impl Compared {
             let last = self.last;
             return self.with_any(h, last, table, trace);
         }
+        if h.kind == Self::SHUT {
+            return self.with_shut(table, trace);
+        }
         self.stopped()
     }
 
@@ -122,8 +151,7 @@ impl Compared {
         steps.print(b"steps: ");
         let states = self.states;
         states.print(b"states: ");
-        say(b"states: ");
-        io::print_decimal(STDOUT_FILENO, self.stepped);
-        say(b" stepped, all ended\n");
+        let lent = self.lent;
+        lent.print(b"advance: ");
     }
 }

@@ -5,6 +5,7 @@ use reading::Head;
 use reading::Next;
 
 mod compared;
+mod lent;
 mod reading;
 mod states;
 mod steps;

@@ -1,7 +1,7 @@
 // Steps monitors that opening and stepping did not make: any words and any verdict.
+use crate::lent::both_step;
 use crate::reading::u64_at;
 use crate::tally::Tally;
-use crate::tally::more;
 use engine::Live;
 use engine::cycle::Expected;
 use engine::plan::Plan;
@@ -105,7 +105,8 @@ fn same_families(a: [u64; 32], b: [u64; 32]) -> bool {
     same
 }
 
-fn same(a: Monitor, b: Monitor) -> bool {
+// Whether two monitors are the same, word for word.
+pub(crate) fn same(a: Monitor, b: Monitor) -> bool {
     let f = a.families;
     let g = b.families;
     same_plan(a.plan, b.plan) & same_stand(a.stand, b.stand) & same_families(f, g)
@@ -136,15 +137,15 @@ pub(crate) fn any_step(
     tally.judged(at, expected, number, agrees(expected, number, stays))
 }
 
-// Feeds every sample of a trace, whatever the answers; one more is counted for each.
-pub(crate) fn steps_on(count: u64, m: Monitor, table: &[u8], trace: &[u8]) -> u64 {
+// Feeds every sample of a trace, whatever the answers; the per-cycle entry gives the same.
+pub(crate) fn steps_on(lent: Tally, at: u64, m: Monitor, table: &[u8], trace: &[u8]) -> Tally {
     let cycles = cycles_of(trace);
-    let mut count = count;
+    let mut lent = lent;
     let mut m = m;
     for i in 0..cycles {
-        let s = monitor::step(table, m, sample_at(trace, i));
+        let s = both_step(lent, at, table, m, sample_at(trace, i));
         m = s.monitor;
-        count = more(count);
+        lent = s.lent;
     }
-    count
+    lent
 }

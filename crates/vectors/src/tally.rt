@@ -72,5 +72,8 @@ fn show(at: u64, expected: u64, answer: u64) {
     io::print_decimal(STDOUT_FILENO, expected);
     say(b", answered ");
     io::print_decimal(STDOUT_FILENO, answer);
+    if expected == answer {
+        say(b" and left another monitor");
+    }
     say(b"\n");
 }

@@ -5,10 +5,10 @@ use Rattle.vectors.proofs.states.steps_on.Statement.{statement}
 use Rattle.vectors.proofs.states.steps_on.Tie as tie
 
 abbrev Inv-loop : tie.InvT-loop
-Inv-loop count table trace cycles count₀ m₀ i₀ count' m i = i ≤ cycles
+Inv-loop at table trace cycles lent₀ m₀ i₀ lent m i = i ≤ cycles
 
 abbrev μ-loop : tie.MeasureT-loop
-μ-loop count table trace cycles count₀ m₀ i₀ count' m i = cycles - i
+μ-loop at table trace cycles lent₀ m₀ i₀ lent m i = cycles - i
 
 cycles-of-requires : tie.Need-cycles-of-requires Inv-loop μ-loop
 cycles-of-requires c κs = search needs
@@ -19,11 +19,8 @@ loop-holds c = omega arith
 sample-at-requires : tie.Need-sample-at-requires Inv-loop μ-loop
 sample-at-requires c κs = search needs
 
-step-requires : tie.Need-step-requires Inv-loop μ-loop
-step-requires c κs = search needs
-
-more-requires : tie.Need-more-requires Inv-loop μ-loop
-more-requires c κs = search needs
+both-step-requires : tie.Need-both-step-requires Inv-loop μ-loop
+both-step-requires c κs = search needs
 
 add-i : tie.Need-add-i Inv-loop μ-loop
 add-i c = search needs
@@ -46,8 +43,7 @@ steps-on-spec =
     cycles-of-requires
     loop-holds
     sample-at-requires
-    step-requires
-    more-requires
+    both-step-requires
     add-i
     loop-less
     loop-again

@@ -1,8 +1,8 @@
 use native.Mathlib.Omega.{arith}
 use borrow.Author.Needs.{needs}
 use Prim.Native.Nat.{_≤_, _-_}
-use Rattle.vectors.proofs.steps.steps.Statement.{statement}
-use Rattle.vectors.proofs.steps.steps.Tie as tie
+use Rattle.vectors.proofs.steps.fed.Statement.{statement}
+use Rattle.vectors.proofs.steps.fed.Tie as tie
 
 abbrev Inv-loop : tie.InvT-loop
 Inv-loop at table trace cycles w₀ i₀ w i = i ≤ cycles
@@ -12,9 +12,6 @@ abbrev μ-loop : tie.MeasureT-loop
 
 cycles-of-requires : tie.Need-cycles-of-requires Inv-loop μ-loop
 cycles-of-requires c κs = search needs
-
-opened-requires : tie.Need-opened-requires Inv-loop μ-loop
-opened-requires c κs = search needs
 
 loop-holds : tie.Need-loop-holds Inv-loop μ-loop
 loop-holds c = omega arith
@@ -37,14 +34,13 @@ loop-again c = omega arith
 returns : tie.Need-returns Inv-loop μ-loop
 returns c = search needs
 
-pub steps-spec : {M : Type 1} → statement M
-steps-spec =
+pub fed-spec : {M : Type 1} → statement M
+fed-spec =
     tie.close
     (tie.spec
     Inv-loop
     μ-loop
     cycles-of-requires
-    opened-requires
     loop-holds
     sample-at-requires
     stepped-requires
