@@ -5,20 +5,22 @@ ghost use Rattle.io.specs.Counts.{Counts};
 use libc::STDOUT_FILENO;
 use monitor::Answer;
 use monitor::Verdict;
+use table::Counts;
 use table::Refusal;
+use trace::Header;
 
 // One byte more than the longest table, so that a longer file is seen to be one.
-fn table_room() -> [u8; 289]
+fn table_room() -> [u8; Counts::BYTES + 1]
     ensures { λ r. ⌜ 289 ≡ length r ⌝ }
 {
-    [0; 289]
+    [0; Counts::BYTES + 1]
 }
 
-// The same for a trace of 16,381 cycles.
-fn trace_room() -> [u8; 65537]
+// The same for the longest trace.
+fn trace_room() -> [u8; Header::BYTES + 1]
     ensures { λ r. ⌜ 65537 ≡ length r ⌝ }
 {
-    [0; 65537]
+    [0; Header::BYTES + 1]
 }
 
 // How many bytes of the file are at the start of the room; of one that can't be read, none.

@@ -1,6 +1,7 @@
 // Reads records: a head of 21 bytes, then the bytes of a table and those of a trace.
 ghost use mathlib.Core.Path.{_≡_};
 ghost use lib.ListN.{length};
+use host::Packed;
 use libc::STDIN_FILENO;
 use little::u32_at;
 
@@ -35,10 +36,10 @@ pub(crate) fn u64_at(bytes: &[u8], at: u16) -> u64 {
     let from = at as u32;
     let low = u32_at(bytes, from) as u64;
     let high = u32_at(bytes, from + 4) as u64;
-    low + 4294967296 * high
+    low + Packed::LOW * high
 }
 
-fn head_of(bytes: &[u8; 21]) -> Head {
+fn head_of(bytes: &[u8; Head::BYTES]) -> Head {
     Head {
         kind: bytes[0],
         property: u32_at(bytes, 1),
@@ -49,7 +50,7 @@ fn head_of(bytes: &[u8; 21]) -> Head {
 }
 
 pub(crate) fn next_head() -> Next {
-    let mut bytes = [0u8; 21];
+    let mut bytes = [0u8; Head::BYTES];
     let got = io::read_full(STDIN_FILENO, &mut bytes);
     if got == Head::BYTES {
         return Next::Record(head_of(&bytes));

@@ -5,6 +5,7 @@ use crate::tally::Tally;
 use engine::Live;
 use engine::cycle::Expected;
 use engine::plan::Plan;
+use host::Packed;
 use host::answer_number;
 use libc::STDIN_FILENO;
 use little::byte_at;
@@ -56,9 +57,9 @@ fn stand_of(state: &[u8]) -> Stand {
     }
 }
 
-fn families_of(state: &[u8]) -> [u64; 32] {
-    let mut families = [0u64; 32];
-    for i in 0..32 {
+fn families_of(state: &[u8]) -> [u64; Monitor::FAMILIES] {
+    let mut families = [0u64; Monitor::FAMILIES];
+    for i in 0..Monitor::FAMILIES {
         families[i] = u64_at(state, (48 + 8 * i) as u16);
     }
     families
@@ -97,9 +98,9 @@ fn same_stand(a: Stand, b: Stand) -> bool {
         & (a.expected.live.b == b.expected.live.b)
 }
 
-fn same_families(a: [u64; 32], b: [u64; 32]) -> bool {
+fn same_families(a: [u64; Monitor::FAMILIES], b: [u64; Monitor::FAMILIES]) -> bool {
     let mut same = true;
-    for i in 0..32 {
+    for i in 0..Monitor::FAMILIES {
         same = same & (a[i] == b[i]);
     }
     same
@@ -114,10 +115,10 @@ pub(crate) fn same(a: Monitor, b: Monitor) -> bool {
 
 // A refusal and a repeated verdict leave the monitor as it was; of a new verdict of any monitor only the cycle is promised.
 fn agrees(expected: u64, answer: u64, stays: bool) -> bool {
-    if expected / 4294967296 < ANY {
+    if expected / Packed::LOW < ANY {
         (answer == expected) & stays
     } else {
-        (4294967296 <= answer) & (answer % 4294967296 == expected % 4294967296)
+        (Packed::LOW <= answer) & (answer % Packed::LOW == expected % Packed::LOW)
     }
 }
 

@@ -4,16 +4,14 @@ use crate::reading::Head;
 use crate::reading::next_answer;
 use crate::states::same;
 use crate::tally::Tally;
+use host::Packed;
 use host::answer_number;
 use monitor::Answer;
 use monitor::Monitor;
-use monitor::Turned;
 use monitor::Verdict;
+use table::Checked;
 use trace::samples::cycles_of;
 use trace::samples::sample_at;
-
-// An answer from this number on is a verdict, else a refusal.
-const VERDICTS: u64 = 4294967296;
 
 // A monitor; what was compared of its answers, and of those of the per-cycle entry.
 pub(crate) struct Watch {
@@ -23,22 +21,22 @@ pub(crate) struct Watch {
 }
 
 // Opened, it is pending after no cycle.
-fn opened_number(turned: Turned) -> u64 {
-    match turned {
-        Turned::Away(refusal) => answer_number(Answer::Refused(refusal)),
-        Turned::In => answer_number(Answer::Given(Verdict::Pending(0))),
+fn opened_number(opened: Checked) -> u64 {
+    match opened {
+        Checked::Refused(refusal) => answer_number(Answer::Refused(refusal)),
+        Checked::Accepted(_) => answer_number(Answer::Given(Verdict::Pending(0))),
     }
 }
 
 fn opened(w: Watch, at: u64, h: Head, table: &[u8]) -> Watch {
     let o = monitor::open(table, h.property);
-    let turned = o.turned;
+    let answer = o.answer;
     let m = o.monitor;
     let t = w.tally;
     let l = w.lent;
     Watch {
         monitor: m,
-        tally: t.answered(at, h.expected, opened_number(turned)),
+        tally: t.answered(at, h.expected, opened_number(answer)),
         lent: l,
     }
 }
@@ -48,7 +46,7 @@ fn is_left(before: Monitor, answer: u64, after: Monitor) -> bool {
     let stand = before.stand;
     let verdict = stand.verdict;
     let stood = answer_number(Answer::Given(verdict));
-    ((VERDICTS <= answer) & (answer != stood)) | same(before, after)
+    ((Packed::LOW <= answer) & (answer != stood)) | same(before, after)
 }
 
 fn stepped(w: Watch, at: u64, table: &[u8], sample: u32) -> Watch {
