@@ -5,15 +5,14 @@ ghost use Rattle.io.specs.Counts.{Counts};
 use libc::STDOUT_FILENO;
 use monitor::Answer;
 use monitor::Verdict;
-use table::Counts;
 use table::Refusal;
 use trace::Header;
 
 // One byte more than the longest table, so that a longer file is seen to be one.
-fn table_room() -> [u8; Counts::BYTES + 1]
+fn table_room() -> [u8; table::Counts::BYTES + 1]
     ensures { λ r. ⌜ 289 ≡ length r ⌝ }
 {
-    [0; Counts::BYTES + 1]
+    [0; table::Counts::BYTES + 1]
 }
 
 // The same for the longest trace.
