@@ -14,7 +14,8 @@ use Rattle.monitor.specs.declared.Verdict.{Verdict}
 use Rattle.monitor.specs.declared.Answer.{Answer}
 use Rattle.monitor.specs.declared.Monitor.{Monitor}
 use Rattle.monitor.specs.Opens.{OpenIs, no-table, no-property, opened}
-use Rattle.monitor.specs.Follows.{verdictOf, answerReply, StepIs}
+use Rattle.monitor.specs.Follows.{verdictOf, signalsOf, StepIs}
+use Rattle.monitor.specs.Demands.{its-signals}
 use Rattle.trace.specs.Trace.{cyclesOf, sampleAt}
 use Rattle.trace.specs.Reader.{readingAt}
 use Rattle.trace.specs.Readings.{reading-more, reading-none}
@@ -60,10 +61,10 @@ all-fed {t} {file} {m} {n} {cycles} after below above f = record {
 }
 
 -- the answer of a property that was opened, by what the check of the trace said
-module _ (t file : List ℕ) (counts : Counts) (property : ℕ) (m : Monitor) (o : OpenIs t property (granted counts) m) {S : ℕ} (s : S ≡ counts .signals)
+module _ (t file : List ℕ) (counts : Counts) (property : ℕ) (m : Monitor) (o : OpenIs t property (granted counts) m) {S : ℕ} (s : S ≡ signalsOf t)
     (checked : TraceChecked) (told : traceReply checked ≡ fileReply S file) where
   says : {r : Reply ℕ} → traceReply checked ≡ r → fileReply (counts .signals) file ≡ r
-  says e = ap (λ (k : ℕ). fileReply k file) (sym s) ∙ sym told ∙ e
+  says e = ap (λ (k : ℕ). fileReply k file) (sym (s ∙ its-signals t counts property m o)) ∙ sym told ∙ e
 
   pub trace-refused : (r : Refusal) → checked ≡ Trace.Refused r → Judged t file property (refused (r .number) (r .place))
   trace-refused r c = by o

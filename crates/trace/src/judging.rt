@@ -1,5 +1,4 @@
 // Judging a trace: refusals 1 to 11, 12, 15, 13; else the last verdict that an opened monitor gives, fed the samples one by one.
-ghost use mathlib.Core.Path.{_≡_};
 ghost use Prim.Native.Nat.{ℕ, _≤_};
 ghost use Rattle.table.specs.Reply.{granted};
 ghost use Rattle.table.specs.declared.Counts.{Counts};
@@ -53,12 +52,12 @@ fn last(table: &[u8], trace: &[u8], cycles: u32, monitor: Monitor) -> Verdict
     stand.verdict
 }
 
-// A property of a table of so many signals that was opened.
-fn opened(table: &[u8], trace: &[u8], signals: u8, monitor: Monitor) -> Answer
-    ensures { λ r. ⌜ ((counts : Counts) (property : ℕ) → signals ≡ counts .signals → OpenIs (now (table .entry)) property (granted counts) monitor
+// A property that was opened.
+fn opened(table: &[u8], trace: &[u8], monitor: Monitor) -> Answer
+    ensures { λ r. ⌜ ((counts : Counts) (property : ℕ) → OpenIs (now (table .entry)) property (granted counts) monitor
         → Judged (now (table .entry)) (now (trace .entry)) property (answerReply r)) ⌝ }
 {
-    let checked = check_trace(trace, signals);
+    let checked = check_trace(trace, little::byte_at(table, 2));
     match checked {
         TraceChecked::Refused(refusal) => Answer::Refused(refusal),
         TraceChecked::Accepted(cycles) => Answer::Given(last(table, trace, cycles, monitor)),
@@ -73,6 +72,6 @@ pub fn judge(table: &[u8], trace: &[u8], property: u32) -> Answer
     let monitor = o.monitor;
     match answer {
         Checked::Refused(refusal) => Answer::Refused(refusal),
-        Checked::Accepted(counts) => opened(table, trace, counts.signals, monitor),
+        Checked::Accepted(_) => opened(table, trace, monitor),
     }
 }

@@ -1,4 +1,3 @@
-use mathlib.Core.Path.{refl}
 use Rattle.trace.proofs.Feeds.{not-in, let-in}
 use borrow.Author.Needs.{needs}
 use Rattle.trace.proofs.judging.judge.Statement.{statement}
@@ -14,8 +13,8 @@ open-requires c κs = search needs
 enum-known-answer : tie.Need-enum-known-answer
 enum-known-answer c = search needs
 
-enum-known-answer-2 : tie.Need-enum-known-answer-2
-enum-known-answer-2 c = search needs
+enum-told : tie.Need-enum-told
+enum-told c = search needs
 
 opened-requires : tie.Need-opened-requires
 opened-requires c κs = search needs
@@ -24,9 +23,9 @@ returns : tie.Need-returns
 returns c = not-in _ _ _ _ _ (c .before .before .before .before .open .ensures) _ (c .before .answer .given .1)
 
 returns-2 : tie.Need-returns-2
-returns-2 c = c .opened .ensures _ _ refl (let-in _ _ _ _ (c .before .before .before .before .before .open .ensures) _ (c .before .before .answer2 .given .1))
+returns-2 c = c .opened .ensures _ _ (let-in _ _ _ _ (c .before .before .before .before .open .ensures) _ (c .before .enum-told .given .1))
 
 pub judge-spec : {M : Type 1} → statement M
 judge-spec =
     tie.close
-    (tie.spec open-requires enum-known-answer enum-known-answer-2 opened-requires returns returns-2)
+    (tie.spec open-requires enum-known-answer enum-told opened-requires returns returns-2)
