@@ -1,5 +1,5 @@
--- THE THREE DEMANDS of a monitor, end to end: over any openings and steps that the contracts of `open` and `step` (and of `advance`, which is that of `step`) allow.
--- To believe: `OpenIs`, `StepIs`, `tableReply`, `propertyOf`, `Undeclared`, and of psl `Breaks`, `Secures`, `Right`. A monitor is what it was given to be, no more.
+-- THE THREE DEMANDS of a monitor, end to end: over any openings and steps that the contracts of `open` and of `step` allow (that of `advance`, and of `step_lent`, is the same).
+-- To believe: `OpenIs`, `StepIs`, `tableReply`, `propertyOf`, `Undeclared`, and of psl `Breaks`, `Secures`, `Right`. What a monitor keeps inside is in no statement here.
 use Prim.Native.Nat.{ℕ, _≤_, _<_}
 use native.Mathlib.Omega.{arith}
 use native.Mathlib.Decide.{decLt}
@@ -24,14 +24,15 @@ use Rattle.monitor.specs.Opens.{countLimit, Shut, OpenIs, no-table, no-p
 use Rattle.monitor.specs.Follows.{verdictOf, signalsOf, Undeclared, DeclaredStep, StepIs}
 use Rattle.monitor.specs.Fed.{undeclared?, counted, Fed, fed-right, fed-opened, fed-signals, fed-step, fed-granted, refused-stays}
 
--- What a recorder does with a monitor m: it feeds one sample after the other, by steps with the same table. v are the samples that were answered by a verdict, in
--- order; a refused one does not count.
+-- What a recorder does with a monitor m: it feeds one sample after the other, by steps on the same table. The samples v are those that were answered by a verdict, in
+-- their order; a refused one does not count.
 pub data Chain (t : List ℕ) (m : Monitor) : List ℕ → Monitor → Type 0 where
   begun : Chain t m [] m
   given : {v : List ℕ} {before after : Monitor} {x : ℕ} {d : Psl.Verdict} → Chain t m v before → StepIs t before x (granted d) after → Chain t m (v ++ x ∷ []) after
   turned-away : {v : List ℕ} {before after : Monitor} {x number place : ℕ} → Chain t m v before → StepIs t before x (refused number place) after → Chain t m v after
 
--- ---- DEMAND 1: a refusal gives its number and place and no verdict; a refused cycle leaves the monitor as it was.
+-- ---- DEMAND 1: a refusal gives its number and place and no verdict; a refused cycle leaves the monitor as it was. (That every call ends with an answer is what a
+-- contract of the language says of a function without `requires`; which answer it is, refusals exactly then, is here and in `answered` below.)
 
 -- opened exactly if the table is accepted and the property's number is below P; else refused, by the table's refusal or by 12
 pub opens : {t : List ℕ} {property : ℕ} {counts : Counts} {m : Monitor} → OpenIs t property (granted counts) m → (tableReply t ≡ granted counts) × (property < counts .properties)

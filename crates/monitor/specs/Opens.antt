@@ -16,6 +16,10 @@ use Rattle.monitor.specs.declared.Verdict.the-variants.{Pending}
 abbrev pub countLimit : ℕ
 countLimit = 4294967295
 
+-- The families of a monitor, `Monitor::FAMILIES`: a property has no more weak sequences.
+abbrev pub familyCount : ℕ
+familyCount = 32
+
 abbrev pub noPlan : Plan
 noPlan = record { booleans = 0; sides = 0; weaks = 0; root = 0 }
 
@@ -25,7 +29,7 @@ pub record Blank (plan : Plan) (cycles : ℕ) (m : Monitor) : Type 0 where
   pub verdict-is : m .stand .verdict ≡ Pending cycles
   pub none-held : m .stand .expected .held ≡ 0
   pub none-live : (m .stand .expected .live .a ≡ 0) × (m .stand .expected .live .b ≡ 0)
-  pub families-are : m .families ≡ replicate 32 0
+  pub families-are : m .families ≡ replicate familyCount 0
 
 -- The monitor of a refused opening: it stands at the count limit, so that every step of it is refused, on any table, and leaves it as it is.
 abbrev pub Shut : Monitor → Type 0

@@ -1,5 +1,5 @@
 -- DOCUMENT 01'S ANSWERS, by its numbers and values: a refusal's number and place, or what is granted. For each enum that a public function answers, a definition
--- tells this of each of its cases, and the promise uses it: `checkedReply` in Check; `turnedReply` and `answerReply` of the monitor; `traceReply` of a trace.
+-- tells this of each of its cases, and the promise uses it: `checkedReply` in Check, of a check and of opening; `answerReply` of a step and of judging; `traceReply` of a trace.
 use Prim.Native.Nat.{ℕ}
 use native.Mathlib.Omega.{arith}
 use mathlib.Core.Path.{_≡_}
