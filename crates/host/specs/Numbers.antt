@@ -122,7 +122,7 @@ taken-apart {reply = granted d} j = by d (judged-cycle j)
     by (settled n) l = let h = at 2 n l in λ i. cond (eqb (h .0 i) 0) (refused (verdictNumber (settled n) / places) (verdictNumber (settled n) % places)) (granted (verdictFrom (h .0 i) (h .1 i)))
     by (pending n) l = let h = at 3 n l in λ i. cond (eqb (h .0 i) 0) (refused (verdictNumber (pending n) / places) (verdictNumber (pending n) % places)) (granted (verdictFrom (h .0 i) (h .1 i)))
 
--- so that of two judgings with one number the replies are one, and what is promised of the reply is promised of the number
+-- so that of two judgings with one number the replies are one, and each theorem about `Judged` is one about the number (a longer file, feeding the samples: `Demands` of trace)
 pub number-tells : {t file t′ file′ : List ℕ} {property property′ : ℕ} {a b : Reply Verdict} → Judged t file property a → Judged t′ file′ property′ b → answerNumber a ≡ answerNumber b → a ≡ b
 number-tells p q e = sym (taken-apart p) ∙ ap takenApart e ∙ taken-apart q
 

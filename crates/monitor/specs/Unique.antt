@@ -45,7 +45,7 @@ ready-one t counts property m m′ p q =
 shut-one : {m m′ : Monitor} → Shut m → Shut m′ → m ≡ m′
 shut-one p q = blank-one noPlan countLimit _ _ p q
 
-too-far : (t : List ℕ) {c d : Counts} {property : ℕ} → tableReply t ≡ granted c → tableReply t ≡ granted d → c .properties ≤ property → property < d .properties → ⊥
+pub too-far : (t : List ℕ) {c d : Counts} {property : ℕ} → tableReply t ≡ granted c → tableReply t ≡ granted d → c .properties ≤ property → property < d .properties → ⊥
 too-far t e f l k = let z = ap (λ (counts : Counts). counts .properties) (granted-one (sym e ∙ f)) in omega arith
 
 pub open-one : {t : List ℕ} {property : ℕ} {reply reply′ : Reply Counts} {m m′ : Monitor} → OpenIs t property reply m → OpenIs t property reply′ m′ → (reply ≡ reply′) × (m ≡ m′)

@@ -1,6 +1,5 @@
 -- Any two answers that a contract of this crate allows are equal. Bytes lent by `&` are as they were: no function can change them.
-use Prim.Native.Nat.{ℕ, _≤_, _<_}
-use native.Mathlib.Omega.{arith}
+use Prim.Native.Nat.{ℕ}
 use mathlib.Core.List.{List}
 use mathlib.Core.Path.{_≡_, refl, sym, _∙_, ap, subst}
 use denote.Ref.{RefT}
@@ -10,6 +9,7 @@ use Rattle.table.specs.Reply.{Reply, refused, granted, not-both, granted-one, r
 use Rattle.table.specs.Trees.{propertyOf}
 use Rattle.table.specs.Check.{tableReply}
 use Rattle.table.specs.declared.Counts.{Counts}
+use Rattle.monitor.specs.Unique.{too-far}
 use Rattle.trace.specs.Trace.{samplesOf}
 use Rattle.trace.specs.Refusals.{traceReply, fileReply}
 use Rattle.trace.specs.Judging.{Judged, no-table, no-property, no-trace, given}
@@ -41,9 +41,6 @@ new-one bytes r s p q = λ i. record { bytes = equation-one (p .0) (q .0) i; at 
 pub next-one : (reader : TraceReader) (r s : Next) (after after′ : TraceReader)
     → (r ≡ gives reader) × (after ≡ moved reader) → (s ≡ gives reader) × (after′ ≡ moved reader) → (r ≡ s) × (after ≡ after′)
 next-one reader r s after after′ p q = (equation-one (p .0) (q .0), equation-one (p .1) (q .1))
-
-too-far : (t : List ℕ) {c d : Counts} {property : ℕ} → tableReply t ≡ granted c → tableReply t ≡ granted d → c .properties ≤ property → property < d .properties → ⊥
-too-far t e f l m = let z = ap (λ (k : Counts). k .properties) (granted-one (sym e ∙ f)) in omega arith
 
 -- one table has one S, so that two replies to the file are one
 file-same : (t file : List ℕ) {c d : Counts} {r s : Reply ℕ} → tableReply t ≡ granted c → tableReply t ≡ granted d → fileReply (c .signals) file ≡ r → fileReply (d .signals) file ≡ s → r ≡ s
