@@ -27,8 +27,9 @@ static Refusal check_trace(const uint8_t *trace, size_t len, uint32_t signals) {
     return (Refusal){0, 0};
 }
 
-/* One declared sample; answers 14 where it is refused. */
+/* One sample; answers 13 or 14 where it is refused. */
 static uint32_t step(const uint8_t *table, Monitor *m, uint32_t sample) {
+    if (undeclared(sample, table[2])) return 13;
     if (m->verdict != PENDING) return 0;
     if (m->cycle == 4294967295u) return 14;
     uint64_t first = with(0, m->plan.root, m->cycle == 0);

@@ -63,7 +63,8 @@ pub record Advances (t : List ℕ) (before : Monitor) (n x : ℕ) (reply : Reply
 abbrev pub monitorOf : Plan → Stand → List ℕ → Monitor
 monitorOf plan stand families = record { plan = plan; stand = stand; families = families }
 
--- A declared sample, by the verdict that stands: "then a verdict already given is repeated, state unchanged; then 14"; else one cycle more.
+-- A declared sample, by the verdict that stands: "then a verdict already given is repeated, state unchanged; then 14", which is all that the monitor of a refused opening
+-- comes to, since it stands at the count limit; else one cycle more.
 abbrev pub DeclaredStep : List ℕ → Monitor → ℕ → Reply Psl.Verdict → Monitor → Verdict → Type 0
 DeclaredStep t before x reply after (Broken n) = (reply ≡ granted (broken n)) × (after ≡ before)
 DeclaredStep t before x reply after (Settled n) = (reply ≡ granted (settled n)) × (after ≡ before)
