@@ -114,16 +114,22 @@ taken-apart {reply = refused number place} j =
     (λ i. cond (eqb (z i) 0) (refused (small-number s i) (small-place s i)) (granted (verdictFrom (z i) (refusalNumber number place % lowPart))))
 taken-apart {reply = granted d} j = by d (judged-cycle j)
   where
-    at : (high n : ℕ) → n ≤ cyclesMost → ((lowPart * high + n) / lowPart ≡ high) × ((lowPart * high + n) % lowPart ≡ n)
-    at high n l = (omega arith, omega arith)
+    by-parts : (high n : ℕ) → n ≤ cyclesMost → takenApart (lowPart * high + n)
+        ≡ cond (eqb high 0) (refused ((lowPart * high + n) / places) ((lowPart * high + n) % places)) (granted (verdictFrom high n))
+    by-parts high n l =
+        let q : (lowPart * high + n) / lowPart ≡ high = omega arith in
+        let r : (lowPart * high + n) % lowPart ≡ n = omega arith in
+        λ i. cond (eqb (q i) 0) (refused ((lowPart * high + n) / places) ((lowPart * high + n) % places)) (granted (verdictFrom (q i) (r i)))
 
     by : (d : Verdict) → cycleOf d ≤ cyclesMost → takenApart (verdictNumber d) ≡ granted d
-    by (broken n) l = let h = at 1 n l in λ i. cond (eqb (h .0 i) 0) (refused (verdictNumber (broken n) / places) (verdictNumber (broken n) % places)) (granted (verdictFrom (h .0 i) (h .1 i)))
-    by (settled n) l = let h = at 2 n l in λ i. cond (eqb (h .0 i) 0) (refused (verdictNumber (settled n) / places) (verdictNumber (settled n) % places)) (granted (verdictFrom (h .0 i) (h .1 i)))
-    by (pending n) l = let h = at 3 n l in λ i. cond (eqb (h .0 i) 0) (refused (verdictNumber (pending n) / places) (verdictNumber (pending n) % places)) (granted (verdictFrom (h .0 i) (h .1 i)))
+    by (broken n) l = by-parts 1 n l
+    by (settled n) l = by-parts 2 n l
+    by (pending n) l = by-parts 3 n l
 
--- so that of two judgings with one number the replies are one, and each theorem about `Judged` is one about the number (a longer file, feeding the samples: `Demands` of trace)
-pub number-tells : {t file t′ file′ : List ℕ} {property property′ : ℕ} {a b : Reply Verdict} → Judged t file property a → Judged t′ file′ property′ b → answerNumber a ≡ answerNumber b → a ≡ b
+-- so that of two judgings with one number the replies are one, and each theorem about `Judged` is one about the number (a longer file, feeding the samples:
+-- `Demands` of trace)
+pub number-tells : {t file t′ file′ : List ℕ} {property property′ : ℕ} {a b : Reply Verdict}
+    → Judged t file property a → Judged t′ file′ property′ b → answerNumber a ≡ answerNumber b → a ≡ b
 number-tells p q e = sym (taken-apart p) ∙ ap takenApart e ∙ taken-apart q
 
 pub number-judged : {t file : List ℕ} {property number : ℕ} → JudgedNumber t file property number → Judged t file property (takenApart number)

@@ -1,5 +1,6 @@
--- THE THREE DEMANDS of a monitor, end to end: over any openings and steps that the contracts of `open` and of `step` allow (that of `advance`, and of `step_lent`, is the same).
--- To believe: `OpenIs`, `StepIs`, `tableReply`, `propertyOf`, `Undeclared`, and of psl `Breaks`, `Secures`, `Right`. What a monitor keeps inside is in no statement here.
+-- THE THREE DEMANDS of a monitor, end to end: over any openings and steps that the contracts of `open` and of `step` allow; those of `advance` and `step_lent` are
+-- that of `step`. To believe: `OpenIs`, `StepIs`, `tableReply`, `propertyOf`, `Undeclared`, and of psl `Breaks`, `Secures`, `Right`. What a monitor keeps inside is
+-- in no statement here.
 use Prim.Native.Nat.{ℕ, _≤_, _<_}
 use native.Mathlib.Omega.{arith}
 use native.Mathlib.Decide.{decLt}
@@ -28,18 +29,22 @@ use Rattle.monitor.specs.Fed.{undeclared?, counted, Fed, fed-right, fed-
 -- their order; a refused one does not count.
 pub data Chain (t : List ℕ) (m : Monitor) : List ℕ → Monitor → Type 0 where
   begun : Chain t m [] m
-  given : {v : List ℕ} {before after : Monitor} {x : ℕ} {d : Psl.Verdict} → Chain t m v before → StepIs t before x (granted d) after → Chain t m (v ++ x ∷ []) after
-  turned-away : {v : List ℕ} {before after : Monitor} {x number place : ℕ} → Chain t m v before → StepIs t before x (refused number place) after → Chain t m v after
+  given : {v : List ℕ} {before after : Monitor} {x : ℕ} {d : Psl.Verdict} → Chain t m v before → StepIs t before x (granted d) after
+      → Chain t m (v ++ x ∷ []) after
+  turned-away : {v : List ℕ} {before after : Monitor} {x number place : ℕ} → Chain t m v before → StepIs t before x (refused number place) after
+      → Chain t m v after
 
 -- ---- DEMAND 1: a refusal gives its number and place and no verdict; a refused cycle leaves the monitor as it was. (That every call ends with an answer is what a
 -- contract of the language says of a function without `requires`; which answer it is, refusals exactly then, is here and in `answered` below.)
 
 -- opened exactly if the table is accepted and the property's number is below P; else refused, by the table's refusal or by 12
-pub opens : {t : List ℕ} {property : ℕ} {counts : Counts} {m : Monitor} → OpenIs t property (granted counts) m → (tableReply t ≡ granted counts) × (property < counts .properties)
+pub opens : {t : List ℕ} {property : ℕ} {counts : Counts} {m : Monitor} → OpenIs t property (granted counts) m
+    → (tableReply t ≡ granted counts) × (property < counts .properties)
 opens (opened e l blank ready) = (e, l)
 
 pub opens-not : {t : List ℕ} {property number place : ℕ} {m : Monitor} → OpenIs t property (refused number place) m
-    → (tableReply t ≡ refused number place) ⊎ (number ≡ 12) × (place ≡ 0) × (counts : Counts) × (tableReply t ≡ granted counts) × (counts .properties ≤ property)
+    → (tableReply t ≡ refused number place)
+    ⊎ (number ≡ 12) × (place ≡ 0) × (counts : Counts) × (tableReply t ≡ granted counts) × (counts .properties ≤ property)
 opens-not (no-table e s) = inl e
 opens-not (no-property {counts} e l s) = inr (refl, refl, counts, e, l)
 
@@ -49,7 +54,8 @@ shut-of : {t : List ℕ} {property number place : ℕ} {m : Monitor} → OpenIs 
 shut-of (no-table e s) = s
 shut-of (no-property e l s) = s
 
-pub refused-opening : {t u : List ℕ} {property number place x : ℕ} {m after : Monitor} {reply : Reply Psl.Verdict} → OpenIs t property (refused number place) m → StepIs u m x reply after
+pub refused-opening : {t u : List ℕ} {property number place x : ℕ} {m after : Monitor} {reply : Reply Psl.Verdict}
+    → OpenIs t property (refused number place) m → StepIs u m x reply after
     → (Undeclared u x → reply ≡ refused 13 0) × (¬ Undeclared u x → reply ≡ refused 14 0) × (after ≡ m)
 refused-opening {t} {u} {property} {number} {place} {x} {m} {after} {reply} o s =
     (λ d. s .undeclared d .0, λ d. full d .0, elim (undeclared? u x) [ yes d ↦ s .undeclared d .1 | no d ↦ full d .1 ])
@@ -140,7 +146,8 @@ module _ (t : List ℕ) (counts : Counts) (property : ℕ) (m : Monitor) (o : Op
       by (right {d} _ r) = (d, refl, r)
 
   -- DEMAND 3: what was given is right, also past the count limit, and may be relied on
-  pub given-right : {v : List ℕ} {before after : Monitor} {x : ℕ} {d : Psl.Verdict} → Chain t m v before → StepIs t before x (granted d) after → Right tree (v ++ x ∷ []) d
+  pub given-right : {v : List ℕ} {before after : Monitor} {x : ℕ} {d : Psl.Verdict} → Chain t m v before → StepIs t before x (granted d) after
+      → Right tree (v ++ x ∷ []) d
   given-right {v} {x = x} c s = by refl (answered c s)
     where
       by : {d : Psl.Verdict} {reply : Reply Psl.Verdict} → reply ≡ granted d → Answered t tree v x reply → Right tree (v ++ x ∷ []) d
@@ -148,11 +155,13 @@ module _ (t : List ℕ) (counts : Counts) (property : ℕ) (m : Monitor) (o : Op
       by e (full _ k r) = absurd (not-both e)
       by e (right _ r) = subst (Right tree (v ++ x ∷ [])) (granted-one e) r
 
-  pub given-promised : {v : List ℕ} {before after : Monitor} {x : ℕ} {d : Psl.Verdict} → Chain t m v before → StepIs t before x (granted d) after → Promised tree (v ++ x ∷ []) d
+  pub given-promised : {v : List ℕ} {before after : Monitor} {x : ℕ} {d : Psl.Verdict} → Chain t m v before → StepIs t before x (granted d) after
+      → Promised tree (v ++ x ∷ []) d
   given-promised {v} {x = x} {d} c s = right-promised tree (v ++ x ∷ []) d (given-right c s)
 
   -- BROKEN STAYS BROKEN, SETTLED STAYS SETTLED, with its cycle, along any longer chain, past the count limit too: each later declared sample y is answered so
-  again : {w : List ℕ} {y : ℕ} {reply : Reply Psl.Verdict} {d : Psl.Verdict} → Right tree w d → Right tree (w ++ y ∷ []) d → ¬ (d ≡ pending (length w)) → ¬ Undeclared t y
+  again : {w : List ℕ} {y : ℕ} {reply : Reply Psl.Verdict} {d : Psl.Verdict} → Right tree w d → Right tree (w ++ y ∷ []) d
+      → ¬ (d ≡ pending (length w)) → ¬ Undeclared t y
       → Answered t tree w y reply → reply ≡ granted d
   again r q over n (undeclared u) = absurd (n u)
   again r q over n (full _ l p) = absurd (over (one-verdict r p))

@@ -48,7 +48,8 @@ shut-one p q = blank-one noPlan countLimit _ _ p q
 pub too-far : (t : List ℕ) {c d : Counts} {property : ℕ} → tableReply t ≡ granted c → tableReply t ≡ granted d → c .properties ≤ property → property < d .properties → ⊥
 too-far t e f l k = let z = ap (λ (counts : Counts). counts .properties) (granted-one (sym e ∙ f)) in omega arith
 
-pub open-one : {t : List ℕ} {property : ℕ} {reply reply′ : Reply Counts} {m m′ : Monitor} → OpenIs t property reply m → OpenIs t property reply′ m′ → (reply ≡ reply′) × (m ≡ m′)
+pub open-one : {t : List ℕ} {property : ℕ} {reply reply′ : Reply Counts} {m m′ : Monitor} → OpenIs t property reply m → OpenIs t property reply′ m′
+    → (reply ≡ reply′) × (m ≡ m′)
 open-one (no-table e p) (no-table f q) = (sym e ∙ f, shut-one p q)
 open-one (no-table e p) (no-property f l q) = absurd (not-both (sym e ∙ f))
 open-one (no-table e p) (opened f l b r) = absurd (not-both (sym e ∙ f))
@@ -80,7 +81,8 @@ module _ (t : List ℕ) (counts : Counts) (property : ℕ) (v : List ℕ) (m : M
   One = (r ≡ r′) × (after ≡ after′)
 
   -- the new verdict, and words of what is then kept
-  advances-one : (n : ℕ) → n ≡ length v → Right (propertyAt t (m .plan .root)) v (pending (length v)) → GoesOn t v m → Advances t m n x r after → Advances t m n x r′ after′ → One
+  advances-one : (n : ℕ) → n ≡ length v → Right (propertyAt t (m .plan .root)) v (pending (length v)) → GoesOn t v m
+      → Advances t m n x r after → Advances t m n x r′ after′ → One
   advances-one n e right g p q =
       let a = p .turns v e right g in
       let b = q .turns v e right g in

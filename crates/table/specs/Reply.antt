@@ -1,5 +1,6 @@
 -- DOCUMENT 01'S ANSWERS, by its numbers and values: a refusal's number and place, or what is granted. For each enum that a public function answers, a definition
--- tells this of each of its cases, and the promise uses it: `checkedReply` in Check, of a check and of opening; `answerReply` of a step and of judging; `traceReply` of a trace.
+-- tells this of each of its cases, and the promise uses it: `checkedReply` in Check, of a check and of opening; `answerReply` of a step and of judging; `traceReply` of
+-- a trace.
 use Prim.Native.Nat.{ℕ}
 use native.Mathlib.Omega.{arith}
 use mathlib.Core.Path.{_≡_}
@@ -15,5 +16,6 @@ not-both e = let z : _≡_ {A = ℕ} 0 1 = cc in absurd (omega arith)
 pub granted-one : {A : Type 0} {a b : A} → granted a ≡ granted b → a ≡ b
 granted-one e = cc
 
-pub refused-one : {A : Type 0} {number place number′ place′ : ℕ} → _≡_ {A = Reply A} (refused number place) (refused number′ place′) → (number ≡ number′) × (place ≡ place′)
+pub refused-one : {A : Type 0} {number place number′ place′ : ℕ} → _≡_ {A = Reply A} (refused number place) (refused number′ place′)
+    → (number ≡ number′) × (place ≡ place′)
 refused-one e = (cc, cc)

@@ -1,5 +1,5 @@
--- THE DEMANDS of judging a file, end to end: over whatever the contract of `judge` allows. To believe: `Judged`, `samplesOf`, `propertyOf`, and of psl `Breaks`, `Secures`, `Right`.
--- The file's verdict is right and may be relied on; a longer file keeps it; it is the last one that feeding the samples to an opened monitor gives.
+-- THE DEMANDS of judging a file, end to end: over whatever the contract of `judge` allows. To believe: `Judged`, `samplesOf`, `propertyOf`, and of psl `Breaks`,
+-- `Secures`, `Right`. The file's verdict is right and may be relied on; a longer file keeps it; it is the last one that feeding the samples to an opened monitor gives.
 use Prim.Native.Nat.{ℕ, _<_}
 use native.Mathlib.Omega.{arith}
 use mathlib.Core.List.{List, [], _∷_, _++_}
@@ -50,11 +50,13 @@ module _ (t : List ℕ) (counts : Counts) (accepted : tableReply t ≡ granted c
   judged-promised {file} {d} j = right-promised tree (samplesOf file) d (judged-right j)
 
   -- a longer file with the same beginning keeps broken n, and settled n
-  pub longer-broken : {file longer : List ℕ} (u : List ℕ) {n : ℕ} {d : Verdict} → Judged t file property (granted (broken n)) → samplesOf longer ≡ samplesOf file ++ u
+  pub longer-broken : {file longer : List ℕ} (u : List ℕ) {n : ℕ} {d : Verdict} → Judged t file property (granted (broken n))
+      → samplesOf longer ≡ samplesOf file ++ u
       → Judged t longer property (granted d) → d ≡ broken n
   longer-broken u {d = d} j e k = one-verdict (subst (λ (w : List ℕ). Right tree w d) e (judged-right k)) (broken-stays u (judged-right j))
 
-  pub longer-settled : {file longer : List ℕ} (u : List ℕ) {n : ℕ} {d : Verdict} → Judged t file property (granted (settled n)) → samplesOf longer ≡ samplesOf file ++ u
+  pub longer-settled : {file longer : List ℕ} (u : List ℕ) {n : ℕ} {d : Verdict} → Judged t file property (granted (settled n))
+      → samplesOf longer ≡ samplesOf file ++ u
       → Judged t longer property (granted d) → d ≡ settled n
   longer-settled u {d = d} j e k = one-verdict (subst (λ (w : List ℕ). Right tree w d) e (judged-right k)) (settled-stays u (judged-right j))
 
@@ -73,12 +75,14 @@ module _ (t : List ℕ) (counts : Counts) (accepted : tableReply t ≡ granted c
         let s = declared-at t file counts property cycles m (subst (λ (n : Counts). Declared (n .signals) file cycles) same g) o (length v) (p .0) in
         (subst (λ (y : ℕ). ¬ Undeclared t y) (p .1) s, omega (arith, p .0, g .right-trace .cycles))
 
-    pub each-given : (v u : List ℕ) (x : ℕ) {before after : Monitor} {reply : Reply Verdict} → samplesOf file ≡ v ++ x ∷ u → Chain t m v before → StepIs t before x reply after
+    pub each-given : (v u : List ℕ) (x : ℕ) {before after : Monitor} {reply : Reply Verdict} → samplesOf file ≡ v ++ x ∷ u
+        → Chain t m v before → StepIs t before x reply after
         → (e : Verdict) × (reply ≡ granted e) × Right tree (v ++ x ∷ []) e
     each-given v u x e c s = let q = declared-in v u x e j in each-right t counts property m o c s (q .0) (q .1)
 
     -- AND THE LAST ANSWER IS WHAT JUDGING SAYS; of a file without samples that is pending 0
-    pub last-answer : (v : List ℕ) (x : ℕ) {before after : Monitor} {reply : Reply Verdict} → samplesOf file ≡ v ++ x ∷ [] → Chain t m v before → StepIs t before x reply after
+    pub last-answer : (v : List ℕ) (x : ℕ) {before after : Monitor} {reply : Reply Verdict} → samplesOf file ≡ v ++ x ∷ []
+        → Chain t m v before → StepIs t before x reply after
         → reply ≡ granted d
     last-answer v x e c s =
         let h = each-given v [] x e c s in

@@ -17,8 +17,10 @@ pub data Judged (t file : List ℕ) (property : ℕ) : Reply Verdict → Type 0 
   -- "12: property number not below P"
   no-property : {counts : Counts} → tableReply t ≡ granted counts → counts .properties ≤ property → Judged t file property (refused 12 0)
   -- "15, 13 (lowest cycle)"
-  no-trace : {counts : Counts} {number place : ℕ} → tableReply t ≡ granted counts → property < counts .properties → fileReply (counts .signals) file ≡ refused number place
+  no-trace : {counts : Counts} {number place : ℕ} → tableReply t ≡ granted counts → property < counts .properties
+      → fileReply (counts .signals) file ≡ refused number place
       → Judged t file property (refused number place)
   -- else the right verdict of the property's tree on the samples
-  given : {counts : Counts} {cycles : ℕ} {d : Verdict} → tableReply t ≡ granted counts → property < counts .properties → fileReply (counts .signals) file ≡ granted cycles
+  given : {counts : Counts} {cycles : ℕ} {d : Verdict} → tableReply t ≡ granted counts → property < counts .properties
+      → fileReply (counts .signals) file ≡ granted cycles
       → Right (propertyOf t (counts .nodes) property) (samplesOf file) d → Judged t file property (granted d)

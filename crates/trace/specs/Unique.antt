@@ -43,10 +43,12 @@ pub next-one : (reader : TraceReader) (r s : Next) (after after′ : TraceReader
 next-one reader r s after after′ p q = (equation-one (p .0) (q .0), equation-one (p .1) (q .1))
 
 -- one table has one S, so that two replies to the file are one
-file-same : (t file : List ℕ) {c d : Counts} {r s : Reply ℕ} → tableReply t ≡ granted c → tableReply t ≡ granted d → fileReply (c .signals) file ≡ r → fileReply (d .signals) file ≡ s → r ≡ s
+file-same : (t file : List ℕ) {c d : Counts} {r s : Reply ℕ} → tableReply t ≡ granted c → tableReply t ≡ granted d
+    → fileReply (c .signals) file ≡ r → fileReply (d .signals) file ≡ s → r ≡ s
 file-same t file e f p q = sym p ∙ ap (λ (k : Counts). fileReply (k .signals) file) (granted-one (sym e ∙ f)) ∙ q
 
-refused-same : {number place number′ place′ : ℕ} → _≡_ {A = Reply ℕ} (refused number place) (refused number′ place′) → _≡_ {A = Reply Verdict} (refused number place) (refused number′ place′)
+refused-same : {number place number′ place′ : ℕ} → _≡_ {A = Reply ℕ} (refused number place) (refused number′ place′)
+    → _≡_ {A = Reply Verdict} (refused number place) (refused number′ place′)
 refused-same e = let h = refused-one e in λ i. refused (h .0 i) (h .1 i)
 
 -- `judge`: by the one answer of each check, and the one right verdict
