@@ -23,6 +23,7 @@ use Rattle.monitor.specs.declared.Verdict.{Verdict}
 use Rattle.monitor.specs.declared.Verdict.the-variants.{Broken, Settled, Pending}
 use Rattle.monitor.specs.Opens.{countLimit, Shut, OpenIs, no-table, no-property, opened}
 use Rattle.monitor.specs.Follows.{verdictOf, signalsOf, Undeclared, DeclaredStep, StepIs}
+use Rattle.monitor.specs.Unique.{too-far}
 use Rattle.monitor.specs.Fed.{undeclared?, counted, Fed, fed-right, fed-opened, fed-signals, fed-step, fed-granted, refused-stays}
 
 -- What a recorder does with a monitor m: it feeds one sample after the other, by steps on the same table. The samples v are those that were answered by a verdict, in
@@ -41,6 +42,12 @@ pub data Chain (t : List ℕ) (m : Monitor) : List ℕ → Monitor → Type 0 wh
 pub opens : {t : List ℕ} {property : ℕ} {counts : Counts} {m : Monitor} → OpenIs t property (granted counts) m
     → (tableReply t ≡ granted counts) × (property < counts .properties)
 opens (opened e l blank ready) = (e, l)
+
+pub opens-so : {t : List ℕ} {property : ℕ} {counts : Counts} {reply : Reply Counts} {m : Monitor} → tableReply t ≡ granted counts → property < counts .properties
+    → OpenIs t property reply m → reply ≡ granted counts
+opens-so a l (no-table e s) = absurd (not-both (sym e ∙ a))
+opens-so {t} a l (no-property e k s) = absurd (too-far t e a k l)
+opens-so a l (opened e k blank ready) = sym e ∙ a
 
 pub opens-not : {t : List ℕ} {property number place : ℕ} {m : Monitor} → OpenIs t property (refused number place) m
     → (tableReply t ≡ refused number place)

@@ -10,21 +10,23 @@ use Rattle.psl.specs.Properties.{Property}
 use Rattle.psl.specs.Verdicts.{Verdict, broken, settled, pending, Right}
 use Rattle.psl.specs.Laws.{one-verdict, broken-stays, settled-stays}
 use Rattle.psl.specs.Proof.Model.Verdicts.{right-none}
-use Rattle.table.specs.Reply.{Reply, granted, granted-one}
+use Rattle.table.specs.Reply.{Reply, refused, granted, not-both, granted-one}
 use Rattle.table.specs.Trees.{propertyOf}
 use Rattle.table.specs.Check.{tableReply}
 use Rattle.table.specs.declared.Counts.{Counts}
 use Rattle.monitor.specs.declared.Monitor.{Monitor}
 use Rattle.monitor.specs.Opens.{countLimit, OpenIs}
 use Rattle.monitor.specs.Follows.{Undeclared, StepIs}
-use Rattle.monitor.specs.Demands.{Chain, Promised, right-promised, opens, each-right}
+use Rattle.monitor.specs.Unique.{too-far}
+use Rattle.monitor.specs.Demands.{Chain, Promised, right-promised, each-right}
 use Rattle.trace.specs.Trace.{cyclesOf, sampleAt, samplesOf, RightTrace}
 use Rattle.trace.specs.Samples.{length-samples, sample-of}
-use Rattle.trace.specs.Meaning.{UndeclaredAt, Declared, accepted-gives}
-use Rattle.trace.specs.Judging.{Judged, given}
+use Rattle.trace.specs.Refusals.{fileReply}
+use Rattle.trace.specs.Meaning.{UndeclaredAt, right, answers, answer-one, Declared, accepted-gives}
+use Rattle.trace.specs.Judging.{Judged, no-table, no-property, no-trace, given}
 use Rattle.trace.specs.Feeding.{declared-at}
 
--- ---- DEMAND 1: a verdict is given only of an accepted table, a property of it, and a right file of its signals; all else is refused, as `Judged` says
+-- ---- DEMAND 1: a verdict is given exactly of an accepted table, a property of it, and a right file of its signals; all else is refused, as `Judged` says
 pub record Judgeable (t file : List ℕ) (property : ℕ) (counts : Counts) : Type 0 where
   pub accepted : tableReply t ≡ granted counts
   pub numbered : property < counts .properties
@@ -35,6 +37,16 @@ pub judgeable : {t file : List ℕ} {property : ℕ} {d : Verdict} → Judged t 
 judgeable {t} {file} (given {counts} {cycles} e l c r) =
     let g = accepted-gives (counts .signals) file cycles c in
     (counts, record { accepted = e; numbered = l; right-file = g .right-trace; none-undeclared = g .none-undeclared })
+
+pub judgeable-given : {t file : List ℕ} {property : ℕ} {counts : Counts} {reply : Reply Verdict} → Judgeable t file property counts → Judged t file property reply
+    → (d : Verdict) × (reply ≡ granted d)
+judgeable-given q (no-table e) = absurd (not-both (sym e ∙ q .accepted))
+judgeable-given {t} q (no-property e l) = absurd (too-far t e (q .accepted) l (q .numbered))
+judgeable-given {file = file} {counts = counts} q (no-trace {counts = c} {number} {place} e l r) =
+    let same : c ≡ counts = granted-one (sym e ∙ q .accepted) in
+    let f = subst (λ (k : Counts). fileReply (k .signals) file ≡ refused number place) same r in
+    absurd (not-both (sym f ∙ answer-one (answers (counts .signals) file) (right (q .right-file) (q .none-undeclared))))
+judgeable-given q (given {d = d} e l c r) = (d, refl)
 
 -- ---- Of an accepted table t
 module _ (t : List ℕ) (counts : Counts) (accepted : tableReply t ≡ granted counts) (property : ℕ) where
@@ -51,13 +63,11 @@ module _ (t : List ℕ) (counts : Counts) (accepted : tableReply t ≡ granted c
 
   -- a longer file with the same beginning keeps broken n, and settled n
   pub longer-broken : {file longer : List ℕ} (u : List ℕ) {n : ℕ} {d : Verdict} → Judged t file property (granted (broken n))
-      → samplesOf longer ≡ samplesOf file ++ u
-      → Judged t longer property (granted d) → d ≡ broken n
+      → samplesOf longer ≡ samplesOf file ++ u → Judged t longer property (granted d) → d ≡ broken n
   longer-broken u {d = d} j e k = one-verdict (subst (λ (w : List ℕ). Right tree w d) e (judged-right k)) (broken-stays u (judged-right j))
 
   pub longer-settled : {file longer : List ℕ} (u : List ℕ) {n : ℕ} {d : Verdict} → Judged t file property (granted (settled n))
-      → samplesOf longer ≡ samplesOf file ++ u
-      → Judged t longer property (granted d) → d ≡ settled n
+      → samplesOf longer ≡ samplesOf file ++ u → Judged t longer property (granted d) → d ≡ settled n
   longer-settled u {d = d} j e k = one-verdict (subst (λ (w : List ℕ). Right tree w d) e (judged-right k)) (settled-stays u (judged-right j))
 
   -- FEEDING the samples of a judged file, one at a time, to a monitor that was opened: each is answered by a verdict,
@@ -76,14 +86,12 @@ module _ (t : List ℕ) (counts : Counts) (accepted : tableReply t ≡ granted c
         (subst (λ (y : ℕ). ¬ Undeclared t y) (p .1) s, omega (arith, p .0, g .right-trace .cycles))
 
     pub each-given : (v u : List ℕ) (x : ℕ) {before after : Monitor} {reply : Reply Verdict} → samplesOf file ≡ v ++ x ∷ u
-        → Chain t m v before → StepIs t before x reply after
-        → (e : Verdict) × (reply ≡ granted e) × Right tree (v ++ x ∷ []) e
+        → Chain t m v before → StepIs t before x reply after → (e : Verdict) × (reply ≡ granted e) × Right tree (v ++ x ∷ []) e
     each-given v u x e c s = let q = declared-in v u x e j in each-right t counts property m o c s (q .0) (q .1)
 
     -- AND THE LAST ANSWER IS WHAT JUDGING SAYS; of a file without samples that is pending 0
     pub last-answer : (v : List ℕ) (x : ℕ) {before after : Monitor} {reply : Reply Verdict} → samplesOf file ≡ v ++ x ∷ []
-        → Chain t m v before → StepIs t before x reply after
-        → reply ≡ granted d
+        → Chain t m v before → StepIs t before x reply after → reply ≡ granted d
     last-answer v x e c s =
         let h = each-given v [] x e c s in
         h .1 ∙ ap granted (one-verdict (subst (λ (w : List ℕ). Right tree w (h .0)) (sym e) (h .2)) (judged-right j))
