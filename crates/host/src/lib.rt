@@ -55,7 +55,7 @@ fn verdict_number(verdict: Verdict) -> u64
     }
 }
 
-// Any answer, also one that no function of this house gives: a made-up refusal of place 65,536 or more shares its number with another.
+// Any answer, also one that no function here gives: a made-up refusal of place 65,536 or more shares its number with another.
 pub fn answer_number(answer: Answer) -> u64
     ensures { λ r. ⌜ r ≡ answerNumber (answerReply answer) ⌝ }
 {

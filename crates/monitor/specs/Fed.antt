@@ -1,5 +1,5 @@
 -- WHY THE DEMANDS HOLD: what stands in a monitor that was opened on an accepted table and fed samples one by one. Nobody has to believe it: opening gives it
--- (`fed-opened`), a step keeps it (`fed-granted`, `fed-refused`), and what follows of the answers is in Demands, which does not name it.
+-- (`fed-opened`), a step keeps it (`fed-granted`, `refused-stays`), and what follows of the answers is in Demands, which does not name it.
 use Prim.Native.Nat.{ℕ, _≤_, _<_}
 use native.Mathlib.Omega.{arith}
 use native.Mathlib.Decide.{decLt}

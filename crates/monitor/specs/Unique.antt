@@ -1,16 +1,13 @@
 -- Any two answers that a contract of this crate allows are equal, with the monitors afterwards. Bytes lent by `&` are as they were.
--- A family is a word, below 2 ^ 64. Excepted is the new verdict of a monitor that was not opened on the table and fed.
+-- Where a step moves on (`Moves`), its monitor is one that was opened on the table and fed, and a family is a word, below 2 ^ 64: that is the exception.
 use Prim.Native.Nat.{ℕ, _≤_, _<_}
 use native.Mathlib.Omega.{arith}
 use native.Mathlib.Decide.{decLt}
 use mathlib.Core.Path.{_≡_, refl, sym, _∙_, ap, subst}
 use mathlib.Core.List.{List}
-use lib.ListN.{length}
-use Rattle.psl.specs.Verdicts.{pending, Right}
 use Rattle.psl.specs.Verdicts as Psl
 use Rattle.psl.specs.Laws.{one-verdict}
 use Rattle.table.specs.Reply.{Reply, granted, not-both, granted-one, refused-one}
-use Rattle.table.specs.Trees.{propertyAt}
 use Rattle.table.specs.Check.{tableReply}
 use Rattle.table.specs.declared.Counts.{Counts}
 use Rattle.engine.specs.declared.plan.Plan.{Plan}
@@ -21,8 +18,8 @@ use Rattle.monitor.specs.declared.Answer.{Answer}
 use Rattle.monitor.specs.declared.Answer.the-variants.{Refused, Given}
 use Rattle.monitor.specs.declared.Verdict.{Verdict}
 use Rattle.monitor.specs.declared.Verdict.the-variants.{Broken, Settled, Pending}
-use Rattle.monitor.specs.Opens.{countLimit, noPlan, Blank, Shut, GoesOn, Ready, OpenIs, no-table, no-property, opened}
-use Rattle.monitor.specs.Follows.{verdictOf, answerReply, Advances, DeclaredStep, StepIs}
+use Rattle.monitor.specs.Opens.{countLimit, noPlan, Blank, Shut, Ready, OpenIs, no-table, no-property, opened}
+use Rattle.monitor.specs.Follows.{verdictOf, answerReply, Undeclared, Advances, DeclaredStep, StepIs}
 use Rattle.monitor.specs.Fed.{undeclared?, Stood, stood-pending, Fed}
 
 monitor-one : (m m′ : Monitor) → m .plan ≡ m′ .plan → m .stand .verdict ≡ m′ .stand .verdict → m .stand .expected .held ≡ m′ .stand .expected .held
@@ -75,36 +72,39 @@ verdict-one (Pending n) (Broken m) e = let z : _≡_ {A = ℕ} 0 1 = cc in absur
 verdict-one (Pending n) (Settled m) e = let z : _≡_ {A = ℕ} 0 1 = cc in absurd (omega arith)
 verdict-one (Pending n) (Pending m) e = cc
 
-module _ (t : List ℕ) (counts : Counts) (property : ℕ) (v : List ℕ) (m : Monitor) (x : ℕ) (f : Fed t counts property v m)
-    (r r′ : Reply Psl.Verdict) (after after′ : Monitor) (fits : Words (after .families)) (fits′ : Words (after′ .families)) where
+-- The step gives a new verdict: the sample is declared, nothing was decided, and one cycle more can be counted. Any other step leaves any monitor as it is.
+abbrev pub Moves : List ℕ → Monitor → ℕ → Type 0
+Moves t m x = (¬ Undeclared t x) × (n : ℕ) × (m .stand .verdict ≡ Pending n) × (n < countLimit)
+
+module _ (t : List ℕ) (counts : Counts) (property : ℕ) (v : List ℕ) (m : Monitor) (x : ℕ) (r r′ : Reply Psl.Verdict) (after after′ : Monitor)
+    (f : Moves t m x → Fed t counts property v m) (fits : Moves t m x → Words (after .families) × Words (after′ .families)) where
   abbrev One : Type 0
   One = (r ≡ r′) × (after ≡ after′)
 
   -- the new verdict, and words of what is then kept
-  advances-one : (n : ℕ) → n ≡ length v → Right (propertyAt t (m .plan .root)) v (pending (length v)) → GoesOn t v m
-      → Advances t m n x r after → Advances t m n x r′ after′ → One
-  advances-one n e right g p q =
+  advances-one : Moves t m x → (n : ℕ) → Stood t v m (Pending n) → Advances t m n x r after → Advances t m n x r′ after′ → One
+  advances-one on n (stood-pending e right g) p q =
       let a = p .turns v e right g in
       let b = q .turns v e right g in
       let d = one-verdict (a .right) (b .right) in (
         p .replies ∙ ap granted d ∙ sym (q .replies),
         monitor-one after after′ (p .plan-stays ∙ sym (q .plan-stays)) (verdict-one (after .stand .verdict) (after′ .stand .verdict) d)
             (held-one (a .keeps) (b .keeps)) (live-a-one (a .keeps) (b .keeps)) (live-b-one (a .keeps) (b .keeps))
-            (families-one (a .keeps) (b .keeps) (weak-low (g .subset) (g .root-low) (g .plan)) fits fits′),
+            (families-one (a .keeps) (b .keeps) (weak-low (g .subset) (g .root-low) (g .plan)) (fits on .0) (fits on .1)),
       )
 
-  declared-one : (d : Verdict) → Stood t v m d → DeclaredStep t m x r after d → DeclaredStep t m x r′ after′ d → One
-  declared-one (Broken n) h p q = (p .0 ∙ sym (q .0), p .1 ∙ sym (q .1))
-  declared-one (Settled n) h p q = (p .0 ∙ sym (q .0), p .1 ∙ sym (q .1))
-  declared-one (Pending n) (stood-pending e right g) p q = elim (decLt n countLimit) [
-    | yes l ↦ advances-one n e right g (p .1 l) (q .1 l)
+  declared-one : ¬ Undeclared t x → (d : Verdict) → m .stand .verdict ≡ d → DeclaredStep t m x r after d → DeclaredStep t m x r′ after′ d → One
+  declared-one u (Broken n) e p q = (p .0 ∙ sym (q .0), p .1 ∙ sym (q .1))
+  declared-one u (Settled n) e p q = (p .0 ∙ sym (q .0), p .1 ∙ sym (q .1))
+  declared-one u (Pending n) e p q = elim (decLt n countLimit) [
+    | yes l ↦ (let on : Moves t m x = (u, n, e, l) in advances-one on n (subst (Stood t v m) e (f on .stood)) (p .1 l) (q .1 l))
     | no l ↦ (let k : countLimit ≤ n = omega arith in (p .0 k .0 ∙ sym (q .0 k .0), p .0 k .1 ∙ sym (q .0 k .1)))
   ]
 
   pub step-one : StepIs t m x r after → StepIs t m x r′ after′ → One
   step-one p q = elim (undeclared? t x) [
     | yes u ↦ (p .undeclared u .0 ∙ sym (q .undeclared u .0), p .undeclared u .1 ∙ sym (q .undeclared u .1))
-    | no d ↦ declared-one (m .stand .verdict) (f .stood) (p .declared d) (q .declared d)
+    | no u ↦ declared-one u (m .stand .verdict) refl (p .declared u) (q .declared u)
   ]
 
 -- An answer is told by its reply.

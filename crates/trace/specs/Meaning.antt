@@ -35,7 +35,9 @@ unfolding headerRight headerOf
 right-means S bytes = tells-iff
     (λ h. record { version = h .0 .0 .0 .0; signals = h .0 .0 .0 .1; cycles = h .0 .0 .1; offset = h .0 .1; whole = h .1 })
     (λ r. ((((r .version, r .signals), r .cycles), r .offset), r .whole))
-    (tells-and (tells-and (tells-and (tells-and (tells-eq (u16At bytes 0) 1) (tells-eq (u16At bytes 2) S)) (tells-le (cyclesOf bytes) cyclesMost)) (tells-eq (u32At bytes 8) 12)) (tells-eq (length bytes) (12 + 4 * cyclesOf bytes)))
+    (tells-and
+    (tells-and (tells-and (tells-and (tells-eq (u16At bytes 0) 1) (tells-eq (u16At bytes 2) S)) (tells-le (cyclesOf bytes) cyclesMost)) (tells-eq (u32At bytes 8) 12))
+    (tells-eq (length bytes) (12 + 4 * cyclesOf bytes)))
   where
     tells-le : (m n : ℕ) → Tells (m ≤ n) (leb m n)
     tells-le m n = tells-iff (leb→le m n) (le→leb m n) (tells-T (leb m n))
