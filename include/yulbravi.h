@@ -41,24 +41,109 @@ enum {
     YULBRAVI_PENDING = 3  /* the trace does neither; `cycle` is the number of samples in it */
 };
 
-/* Numbers of refusals, and what the place of each is. */
+/* words: refusals */
+/* Numbers of refusals: what each says, and what its place is. */
 enum {
-    YULBRAVI_TABLE_SHORT = 1,         /* fewer than 16 bytes; 0 */
-    YULBRAVI_TABLE_VERSION = 2,       /* version not 1; 0 */
-    YULBRAVI_TABLE_COUNTS = 3,        /* signals, rows or properties outside their ranges; 0 */
-    YULBRAVI_TABLE_LENGTH = 4,        /* an offset, the total or the length given is wrong; 0 */
-    YULBRAVI_KIND_UNKNOWN = 5,        /* a row's kind is not in the list of kinds; the row */
-    YULBRAVI_KIND_STRONG = 6,         /* next!, until! or eventually!; the row */
-    YULBRAVI_FIELD_WRONG = 7,         /* operand not below its row, signal not declared, or unused field not 0; the row */
-    YULBRAVI_CLASS_WRONG = 8,         /* an operand of a class that the kind does not take; the row */
-    YULBRAVI_ROOT_WRONG = 9,          /* a root that is no row, or a sequence; the property */
-    YULBRAVI_USED_NOT_ONCE = 10,      /* a sequence or property row used never or twice; the lowest such row */
-    YULBRAVI_CELLS_TOO_MANY = 11,     /* a weak sequence of more than 6 cells; the lowest such row */
-    YULBRAVI_PROPERTY_UNKNOWN = 12,   /* property number not below the table's count; 0 */
-    YULBRAVI_SIGNAL_UNDECLARED = 13,  /* a sample sets a bit that is no signal; the lowest such cycle, from 1 */
-    YULBRAVI_CYCLES_TOO_MANY = 14,    /* a monitor's count is full; 0. Neither function answers it: a trace file is shorter */
-    YULBRAVI_TRACE_WRONG = 15         /* the trace's header or length is wrong, or it is of other signals; 0 */
+    YULBRAVI_TABLE_SHORT = 1, /* the table has fewer than 16 bytes; 0 */
+    YULBRAVI_TABLE_VERSION = 2, /* the table's version is not 1; 0 */
+    YULBRAVI_TABLE_COUNTS = 3, /* signals not 1 to 32, rows not 1 to 64, or properties not 1 to 8; 0 */
+    YULBRAVI_TABLE_LENGTH = 4, /* an offset, the total or the file's length is wrong; 0 */
+    YULBRAVI_KIND_UNKNOWN = 5, /* the row's kind is none of the list; the row */
+    YULBRAVI_KIND_STRONG = 6, /* a strong operator: next!, until!, eventually!; the row */
+    YULBRAVI_FIELD_WRONG = 7, /* an operand is not above its row, a signal is not declared, or an unused field is not 0; the row */
+    YULBRAVI_CLASS_WRONG = 8, /* an operand of the wrong class, as a property where a Boolean belongs; the row */
+    YULBRAVI_ROOT_WRONG = 9, /* the property's root is no row, or is a sequence; the property */
+    YULBRAVI_USED_NOT_ONCE = 10, /* a sequence or property row is used never or more than once; the row */
+    YULBRAVI_CELLS_TOO_MANY = 11, /* a weak sequence of more than 6 cells; the row */
+    YULBRAVI_PROPERTY_UNKNOWN = 12, /* there is no property of this number; 0 */
+    YULBRAVI_SIGNAL_UNDECLARED = 13, /* a sample sets a bit that is no signal of the table; the cycle, from 1 */
+    YULBRAVI_CYCLES_TOO_MANY = 14, /* 4,294,967,295 cycles are read and the property is still pending, or the monitor's opening was refused; 0 */
+    YULBRAVI_TRACE_WRONG = 15 /* the trace's header or length is wrong, or it is of another number of signals than the table; 0 */
 };
+
+/* What the number of a refusal says; of any other number nothing. */
+static inline const char *yulbravi_what(unsigned number)
+{
+    switch (number) {
+    case 1:
+        return "the table has fewer than 16 bytes";
+    case 2:
+        return "the table's version is not 1";
+    case 3:
+        return "signals not 1 to 32, rows not 1 to 64, or properties not 1 to 8";
+    case 4:
+        return "an offset, the total or the file's length is wrong";
+    case 5:
+        return "the row's kind is none of the list";
+    case 6:
+        return "a strong operator: next!, until!, eventually!";
+    case 7:
+        return "an operand is not above its row, a signal is not declared, or an unused field is not 0";
+    case 8:
+        return "an operand of the wrong class, as a property where a Boolean belongs";
+    case 9:
+        return "the property's root is no row, or is a sequence";
+    case 10:
+        return "a sequence or property row is used never or more than once";
+    case 11:
+        return "a weak sequence of more than 6 cells";
+    case 12:
+        return "there is no property of this number";
+    case 13:
+        return "a sample sets a bit that is no signal of the table";
+    case 14:
+        return "4,294,967,295 cycles are read and the property is still pending, or the monitor's opening was refused";
+    case 15:
+        return "the trace's header or length is wrong, or it is of another number of signals than the table";
+    default:
+        return "";
+    }
+}
+
+/* What to do about it. */
+static inline const char *yulbravi_to_do(unsigned number)
+{
+    switch (number) {
+    case 1:
+        return "copy the file again, or name the right one; one that is missing or cannot be read counts as empty";
+    case 2:
+        return "this is no table file, or one of a later kind: ask the kit's author";
+    case 3:
+        return "split a large kit into several tables";
+    case 4:
+        return "the file was cut or grew on its way: copy it again; else write the header anew";
+    case 5:
+        return "mend the row; the kinds are in docs/RULES.md";
+    case 6:
+        return "these ask for what may come after any recording's end: use the weak form, or a bound, as property 0 of "
+               "examples/handshake has";
+    case 7:
+        return "put rows after those that they use; raise the signals in the header";
+    case 8:
+        return "only Booleans can be negated, stand before -> or after until; a sequence is made a property by weak {..}";
+    case 9:
+        return "name the row of weak {..} or never {..} over the sequence";
+    case 10:
+        return "remove it, or copy it: each use needs its own row; Booleans may be shared";
+    case 11:
+        return "shorten it; a first part of one length can go before, weak {a ; b} and {a ; b} |=> weak {rest}. Left sides and"
+               " never may be longer";
+    case 12:
+        return "numbers go from 0 to one less than the table's count; hosts in C and recorders that open a monitor meet this, "
+               "the commands never";
+    case 13:
+        return "the recorder has more wires than the kit declares, or the trace is of another kit: leave those wires out, or "
+               "declare them in the table";
+    case 14:
+        return "open a new monitor, or look at that refusal; only monitors that are fed cycle by cycle answer it";
+    case 15:
+        return "copy it again, or give the trace that belongs to the table; of more than 16,381 cycles give the first 16,381. "
+               "One that is missing counts as empty";
+    default:
+        return "";
+    }
+}
+/* end of words: refusals */
 
 /* The most bytes that an accepted table and a trace that is judged have: a host that reads one more sees that a file is too long. */
 enum {

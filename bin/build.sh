@@ -1,0 +1,152 @@
+# build.sh, for sh to source with `home` set to the clone's top: what the commands and hosts run is proved and put into built/.
+#   build program    built/yulbravi, with the loader, the C library and, where the machine needs it, the emulator that it runs with
+#   build library    built/libyulbravi.a, the exports for a host in C
+# Where the sources are those that it was built from, nothing is done and no prover is called. One run builds at a time; others wait, and say so.
+
+built=$home/built
+
+say() { # WORD..
+    printf 'yulbravi: %s\n' "$*" >&2
+}
+
+# The crates of this repository that one is made of, itself among them.
+crates_of() { # NAME
+    awk -v want="$1" '
+        function visit(name,    uses, i, n) {
+            if (seen[name]++) return
+            print name
+            n = split(deps[name], uses, " ")
+            for (i = 1; i <= n; i++) if (uses[i] in deps) visit(uses[i])
+        }
+        { sub(/#.*/, "") }
+        /:/ { name = $0; sub(/ *:.*/, "", name); sub(/[^:]*:/, ""); deps[name] = $0 }
+        END { visit(want) }' "$home/crates.txt"
+}
+
+# The crate that is built for each.
+crate_for() { # program|library
+    case $1 in program) echo yulbravi ;; library) echo host ;; esac
+}
+
+# What a crate is made of, in one line that changes with any of its sources.
+sources_of() { # NAME
+    for crate in $(crates_of "$1"); do
+        (cd -- "$home/crates/$crate" && find src specs proofs -type f -exec sha256sum {} + 2>/dev/null | sed "s/^/$crate /")
+    done | sort | sha256sum
+}
+
+# Whether what was built is of the sources as they are.
+current() { # program|library
+    [ -f "$built/$1.sources" ] && [ "$(cat -- "$built/$1.sources")" = "$(sources_of "$(crate_for "$1")")" ]
+}
+
+# Holds the clone for one run at a time, on descriptor 9, until `release`.
+hold() {
+    mkdir -p -- "$built" 2>/dev/null
+    [ -w "$built" ] || {
+        say "nothing can be built here: no right to write in $built"
+        return 2
+    }
+    exec 9>>"$built/lock"
+    command -v flock >/dev/null || {
+        say 'no flock on the path: it is in the package util-linux'
+        return 2
+    }
+    flock -n 9 && return
+    say 'another run is proving in this clone: waiting for it to end'
+    until flock -w 1 9; do :; done
+}
+
+release() {
+    exec 9>&-
+}
+
+# What is seen of a proof that goes on: a count that is written over on a terminal, else a line for each crate.
+show_proved() { # LOG TOTAL SECONDS
+    now=$(grep -c '^rt: [a-z_]* proved' "$1")
+    if [ -t 2 ]; then
+        printf '\ryulbravi: %s of %s crates are proved, %s s \033[K' "$now" "$2" "$3" >&2
+    elif [ "$now" -gt "$shown" ]; then
+        sed -n 's/^rt: \([a-z_]* proved.*\)/\1/p' "$1" | sed -n "$((shown + 1)),${now}p" |
+            while IFS= read -r line; do shown=$((shown + 1)) && say "$shown of $2: $line"; done
+    fi
+    shown=$now
+}
+
+# Starts a command at the clone's top, in a session and with a folder of its own for its output and temporary files: a signal that ends this script ends all of
+# that, and leaves no folder. Programs that the prover runs as nobody have to get through the folder.
+start() { # COMMAND..
+    room=$(mktemp -d) && chmod 711 "$room" || return 2
+    (cd -- "$home" && TMPDIR=$room exec setsid "$@") >"$room/log" 2>&1 &
+    started=$!
+    for signal in HUP INT TERM; do
+        # shellcheck disable=SC2064
+        trap "kill -TERM -- -$started 2>/dev/null; wait $started; rm -rf '$room'; trap - $signal; kill -$signal $$" "$signal"
+    done
+}
+
+# Waits for what was started: its status is `ended`, and its output stays in the folder until `clear_room`.
+await() {
+    wait "$started"
+    ended=$?
+}
+
+clear_room() {
+    rm -rf "$room"
+    trap - HUP INT TERM
+}
+
+# Runs the prover out of sight, and shows how far it is.
+prove() { # TOTAL COMMAND..
+    total=$1 shown=0 began=$(date +%s)
+    shift
+    start "$@" || return 2
+    while kill -0 "$started" 2>/dev/null; do
+        sleep 0.5
+        show_proved "$room/log" "$total" $(($(date +%s) - began))
+    done
+    [ ! -t 2 ] || printf '\n' >&2
+    await
+    [ "$ended" -eq 0 ] || tail -n 40 -- "$room/log" >&2
+    clear_room
+    return "$ended"
+}
+
+# Puts a file into built/ under its name there, in one step.
+put() { # FILE NAME
+    cp -- "$1" "$built/$2.new" && mv -f -- "$built/$2.new" "$built/$2"
+}
+
+put_program() {
+    put "$tools/lib/ld-linux-x86-64.so.2" ld-linux-x86-64.so.2 && put "$tools/lib/libc.so.6" libc.so.6 &&
+        { [ -z "$emulator" ] || put "$emulator" qemu-x86_64; } && put "$home/target/bin/yulbravi" yulbravi
+}
+
+put_library() {
+    put "$home/target/staticlib/libhost.a" libyulbravi.a
+}
+
+# Builds while the clone is held.
+build_held() { # program|library
+    ! current "$1" || return 0
+    . "$home/bin/kit.sh"
+    made=$(crate_for "$1") proving=check
+    [ "$1" = program ] || proving=staticlib
+    sources=$(sources_of "$made") count=$(crates_of "$made" | wc -l)
+    say "proving the $1: $count crates, some minutes where none is proved yet"
+    prove "$count" rt "$proving" "$made" || {
+        say "the $1 is not proved: nothing is run"
+        return 2
+    }
+    "put_$1" && rt version >"$built/toolchain.new" && mv -f -- "$built/toolchain.new" "$built/toolchain" &&
+        printf '%s\n' "$sources" >"$built/$1.new" && mv -f -- "$built/$1.new" "$built/$1.sources"
+}
+
+build() { # program|library
+    ! current "$1" || return 0
+    hold || return 2
+    build_held "$1"
+    ended=$?
+    release
+    return "$ended"
+}
