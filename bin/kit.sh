@@ -31,6 +31,7 @@ linked() { # PROGRAM [WORD..]
 need() { # COMMAND PACKAGE..
     command -v "$1" >/dev/null && return
     shift
+    echo "installing the package${2:+s} $*" >&2
     root=
     [ "$(id -u)" -eq 0 ] || root=sudo
     said=$({ $root apt-get update -qq && DEBIAN_FRONTEND=noninteractive $root apt-get install -y -qq --no-install-recommends "$@"; } 2>&1) || {
