@@ -50,7 +50,7 @@ enum {
     YULBRAVI_TABLE_LENGTH = 4, /* an offset, the total or the file's length is wrong; 0 */
     YULBRAVI_KIND_UNKNOWN = 5, /* the row's kind is none of the list; the row */
     YULBRAVI_KIND_STRONG = 6, /* a strong operator: next!, until!, eventually!; the row */
-    YULBRAVI_FIELD_WRONG = 7, /* an operand is not above its row, a signal is not declared, or an unused field is not 0; the row */
+    YULBRAVI_FIELD_WRONG = 7, /* an operand names no earlier row, a signal is not declared, or an unused field is not 0; the row */
     YULBRAVI_CLASS_WRONG = 8, /* an operand of the wrong class, as a property where a Boolean belongs; the row */
     YULBRAVI_ROOT_WRONG = 9, /* the property's root is no row, or is a sequence; the property */
     YULBRAVI_USED_NOT_ONCE = 10, /* a sequence or property row is used never or more than once; the row */
@@ -78,7 +78,7 @@ static inline const char *yulbravi_what(unsigned number)
     case 6:
         return "a strong operator: next!, until!, eventually!";
     case 7:
-        return "an operand is not above its row, a signal is not declared, or an unused field is not 0";
+        return "an operand names no earlier row, a signal is not declared, or an unused field is not 0";
     case 8:
         return "an operand of the wrong class, as a property where a Boolean belongs";
     case 9:
@@ -109,7 +109,7 @@ static inline const char *yulbravi_to_do(unsigned number)
     case 2:
         return "this is no table file, or one of a later kind: ask the kit's author";
     case 3:
-        return "split a large kit into several tables";
+        return "split a large kit into several tables; mend a count of 0";
     case 4:
         return "the file was cut or grew on its way: copy it again; else write the header anew";
     case 5:
