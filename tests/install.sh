@@ -181,6 +181,27 @@ uint64_t second(void) { return yulbravi_check((const uint8_t *)"", 0) + check((c
 END
 }
 
+# A host and a shared library that calls a `check` of its own keep apart. Where hosts are built static there is none.
+install_shared() {
+    [ "$c_compiler" = cc ] || return 0
+    cat >"$work/hosts/shared.c" <<'END'
+int check(void), ask(void);
+int check(void) { return 5; }
+int ask(void) { return check(); }
+END
+    cat >"$work/hosts/asks.c" <<'END'
+#define YULBRAVI_PREFIXED_ONLY
+#include <stdio.h>
+#include "yulbravi.h"
+int ask(void);
+int main(void) { return printf("%u %d\n", yulbravi_number(yulbravi_check((const uint8_t *)"", 0)), ask()) < 0; }
+END
+    echo '1 5' >"$work/own"
+    cc -shared -fPIC -o "$work/hosts/libshared.so" "$work/hosts/shared.c" &&
+        install_flagged 'cc -std=c99' "$work/hosts/asks" "$work/hosts/asks.c" "$work/hosts/libshared.so"
+    install_gives 'a shared library with a check of its own' 0 "$work/own" "$work/hosts/asks"
+}
+
 install_hosts() {
     need pkg-config pkg-config && need "${c_compiler% *}" "$c_package" "$c_library"
     counts $? 'no compiler for C, or no pkg-config'
@@ -204,6 +225,7 @@ install_hosts() {
     done
     ! install_flagged "$c_compiler -std=c99" "$work/hosts/extern" "$work/hosts/extern.c" && grep -q 'multiple definition\|duplicate symbol' "$work/complaint"
     counts $? "own functions that other files see are not told: $(cat "$work/complaint")"
+    install_shared
 }
 
 # Runs a command with an rt on the path that only fails, so that nothing can be proved, and with CDPATH set.
