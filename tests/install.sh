@@ -118,10 +118,10 @@ install_commands() {
 
 # Compiles files with the flags that pkg-config gives; a PREFIX with spaces comes with backslashes, for a shell to read again.
 install_flagged() { # COMPILER-AND-STANDARD OUT FILE..
-    flagged_by=$1 flagged_out=$2
-    shift 2
+    flagged_by=$1
+    shift
     flags=$(PKG_CONFIG_PATH="$prefix/lib/pkgconfig" pkg-config --cflags --libs yulbravi) &&
-        eval "$flagged_by $warnings -O2 -o \"\$flagged_out\" \"\$@\" $flags" 2>"$work/complaint"
+        eval "$flagged_by $warnings -O2 -o \"\$@\" $flags" 2>"$work/complaint"
 }
 
 # The example host on files that it judges, refuses and cannot read.
