@@ -113,33 +113,40 @@ prove() { # TOTAL COMMAND..
 }
 
 # Puts a file into built/ under its name there, in one step.
-put() { # FILE NAME
+keep() { # FILE NAME
     cp -- "$1" "$built/$2.new" && mv -f -- "$built/$2.new" "$built/$2"
 }
 
-put_program() {
-    put "$tools/lib/ld-linux-x86-64.so.2" ld-linux-x86-64.so.2 && put "$tools/lib/libc.so.6" libc.so.6 &&
-        { [ -z "$emulator" ] || put "$emulator" qemu-x86_64; } && put "$home/target/bin/yulbravi" yulbravi
+keep_program() {
+    keep "$tools/lib/ld-linux-x86-64.so.2" ld-linux-x86-64.so.2 && keep "$tools/lib/libc.so.6" libc.so.6 &&
+        { [ -z "$emulator" ] || keep "$emulator" qemu-x86_64; } && keep "$home/target/bin/yulbravi" yulbravi
 }
 
-put_library() {
-    put "$home/target/staticlib/libhost.a" libyulbravi.a
+# The proved library, its functions under their prefixed names too: second names of the same code in the same object, so that the linker tells a host with a `check`
+# of its own. Names made by the header, as an assembler label, would be that host's own `check`, without a word.
+keep_library() {
+    objects=$built/objects
+    rm -rf -- "$objects" "$built/named.a" && mkdir -- "$objects" &&
+        (cd -- "$objects" && "$tools/bin/llvm-ar" x "$home/target/staticlib/libhost.a") &&
+        "$tools/bin/ld.lld" -r --defsym=yulbravi_check=check --defsym=yulbravi_judge=judge -o "$objects/yulbravi.all" "$objects"/*.o &&
+        mv -- "$objects/yulbravi.all" "$objects/yulbravi.o" && "$tools/bin/llvm-ar" rcs "$built/named.a" "$objects/yulbravi.o" &&
+        rm -rf -- "$objects" && mv -f -- "$built/named.a" "$built/libyulbravi.a"
 }
 
 # Builds while the clone is held.
 build_held() { # program|library
     ! current "$1" || return 0
     . "$home/bin/kit.sh"
-    made=$(crate_for "$1") proving=check
-    [ "$1" = program ] || proving=staticlib
-    sources=$(sources_of "$made") count=$(crates_of "$made" | wc -l)
-    say "proving the $1: $count crates, some minutes where none is proved yet"
-    prove "$count" rt "$proving" "$made" || {
+    build_crate=$(crate_for "$1") build_verb=check
+    [ "$1" = program ] || build_verb=staticlib
+    build_sources=$(sources_of "$build_crate") build_count=$(crates_of "$build_crate" | wc -l)
+    say "proving the $1: $build_count crates, some minutes where none is proved yet"
+    prove "$build_count" rt "$build_verb" "$build_crate" || {
         say "the $1 is not proved: nothing is run"
         return 2
     }
-    "put_$1" && rt version >"$built/toolchain.new" && mv -f -- "$built/toolchain.new" "$built/toolchain" &&
-        printf '%s\n' "$sources" >"$built/$1.new" && mv -f -- "$built/$1.new" "$built/$1.sources"
+    "keep_$1" && rt version >"$built/toolchain.new" && mv -f -- "$built/toolchain.new" "$built/toolchain" &&
+        printf '%s\n' "$build_sources" >"$built/$1.new" && mv -f -- "$built/$1.new" "$built/$1.sources"
 }
 
 build() { # program|library

@@ -1,9 +1,11 @@
-/* yulbravi.h: the table check and the judge, for a host in C (C99 or later) or C++.
+/* yulbravi.h: the table check and the judge, for a host in C (C99 or later) or C++ (C++11 or later).
  *
- * Link target/staticlib/libhost.a, which `rt staticlib host` proves and writes, for x86-64. Both functions only read the bytes that
- * they are lent, for the time of the call; they keep nothing, allocate nothing and call nothing (but memcpy, where a compiler puts one),
- * so threads may call them at once. Any bytes of any length get an answer. A pointer is not null, and points to as many bytes as its
- * length says.
+ * Link with the flags of `pkg-config --cflags --libs yulbravi` where `bin/install` put the files, or name libyulbravi.a after the host's
+ * own files; in a clone `examples/host/build` does it. The library is for x86-64. docs/host.md is the page for authors of hosts.
+ *
+ * Both functions only read the bytes that they are lent, for the time of the call; they keep nothing, allocate nothing and call nothing
+ * (but memcpy, where a compiler puts one), so threads may call them at once. Any bytes of any length get an answer. A pointer is not
+ * null, and points to as many bytes as its length says.
  *
  * An answer is one number of 64 bits:
  *
@@ -27,11 +29,22 @@ extern "C" {
 #endif
 
 /* 0 if the table is accepted; else its refusal, number 1 to 11. */
-uint64_t check(const uint8_t *table, size_t table_len);
+uint64_t yulbravi_check(const uint8_t *table, size_t table_len);
 
 /* The verdict on a property of the table, numbered from 0, after the whole trace; or the first refusal in the order
  * 1 to 11 (table), 12 (property), 15 (trace file), 13 (lowest cycle). */
+uint64_t yulbravi_judge(const uint8_t *table, size_t table_len, const uint8_t *trace, size_t trace_len, uint32_t property);
+
+/* The same two functions under their plain names. Define YULBRAVI_PREFIXED_ONLY before this header is included to go without them.
+ *
+ * Plain names are easily had by somebody else too. A function `check` or `judge` of the host's own, with external linkage, in any of its
+ * files: a call of a prefixed name then does not link ("multiple definition of check"), which is what is wanted; a call of a plain name
+ * may be given the host's own function without a word. So call the prefixed names. A static function of its own name is no clash where
+ * YULBRAVI_PREFIXED_ONLY is defined; where it is not, the compiler tells. */
+#ifndef YULBRAVI_PREFIXED_ONLY
+uint64_t check(const uint8_t *table, size_t table_len);
 uint64_t judge(const uint8_t *table, size_t table_len, const uint8_t *trace, size_t trace_len, uint32_t property);
+#endif
 
 /* Kinds of answers. A broken or settled property stays so however the recording goes on; pending is not a pass. */
 enum {
@@ -44,21 +57,21 @@ enum {
 /* words: refusals */
 /* Numbers of refusals: what each says, and what its place is. */
 enum {
-    YULBRAVI_TABLE_SHORT = 1, /* the table has fewer than 16 bytes; 0 */
-    YULBRAVI_TABLE_VERSION = 2, /* the table's version is not 1; 0 */
-    YULBRAVI_TABLE_COUNTS = 3, /* signals not 1 to 32, rows not 1 to 64, or properties not 1 to 8; 0 */
-    YULBRAVI_TABLE_LENGTH = 4, /* an offset, the total or the file's length is wrong; 0 */
-    YULBRAVI_KIND_UNKNOWN = 5, /* the row's kind is none of the list; the row */
-    YULBRAVI_KIND_STRONG = 6, /* a strong operator: next!, until!, eventually!; the row */
-    YULBRAVI_FIELD_WRONG = 7, /* an operand names no earlier row, a signal is not declared, or an unused field is not 0; the row */
-    YULBRAVI_CLASS_WRONG = 8, /* an operand of the wrong class, as a property where a Boolean belongs; the row */
-    YULBRAVI_ROOT_WRONG = 9, /* the property's root is no row, or is a sequence; the property */
-    YULBRAVI_USED_NOT_ONCE = 10, /* a sequence or property row is used never or more than once; the row */
-    YULBRAVI_CELLS_TOO_MANY = 11, /* a weak sequence of more than 6 cells; the row */
-    YULBRAVI_PROPERTY_UNKNOWN = 12, /* there is no property of this number; 0 */
+    YULBRAVI_TABLE_SHORT = 1,        /* the table has fewer than 16 bytes; 0 */
+    YULBRAVI_TABLE_VERSION = 2,      /* the table's version is not 1; 0 */
+    YULBRAVI_TABLE_COUNTS = 3,       /* signals not 1 to 32, rows not 1 to 64, or properties not 1 to 8; 0 */
+    YULBRAVI_TABLE_LENGTH = 4,       /* an offset, the total or the file's length is wrong; 0 */
+    YULBRAVI_KIND_UNKNOWN = 5,       /* the row's kind is none of the list; the row */
+    YULBRAVI_KIND_STRONG = 6,        /* a strong operator: next!, until!, eventually!; the row */
+    YULBRAVI_FIELD_WRONG = 7,        /* an operand names no earlier row, a signal is not declared, or an unused field is not 0; the row */
+    YULBRAVI_CLASS_WRONG = 8,        /* an operand of the wrong class, as a property where a Boolean belongs; the row */
+    YULBRAVI_ROOT_WRONG = 9,         /* the property's root is no row, or is a sequence; the property */
+    YULBRAVI_USED_NOT_ONCE = 10,     /* a sequence or property row is used never or more than once; the row */
+    YULBRAVI_CELLS_TOO_MANY = 11,    /* a weak sequence of more than 6 cells; the row */
+    YULBRAVI_PROPERTY_UNKNOWN = 12,  /* there is no property of this number; 0 */
     YULBRAVI_SIGNAL_UNDECLARED = 13, /* a sample sets a bit that is no signal of the table; the cycle, from 1 */
-    YULBRAVI_CYCLES_TOO_MANY = 14, /* 4,294,967,295 cycles are read and the property is still pending, or the monitor's opening was refused; 0 */
-    YULBRAVI_TRACE_WRONG = 15 /* the trace's header or length is wrong, or it is of another number of signals than the table; 0 */
+    YULBRAVI_CYCLES_TOO_MANY = 14,   /* 4,294,967,295 cycles are read and the property is still pending, or the monitor's opening was refused; 0 */
+    YULBRAVI_TRACE_WRONG = 15        /* the trace's header or length is wrong, or it is of another number of signals than the table; 0 */
 };
 
 /* What the number of a refusal says; of any other number nothing. */
@@ -145,10 +158,12 @@ static inline const char *yulbravi_to_do(unsigned number)
 }
 /* end of words: refusals */
 
-/* The most bytes that an accepted table and a trace that is judged have: a host that reads one more sees that a file is too long. */
+/* The most bytes that an accepted table and a trace that is judged have: a host that reads one more sees that a file is too long.
+ * The most properties that an accepted table has. */
 enum {
-    YULBRAVI_TABLE_BYTES = 288,  /* 16 + 4 * 64 rows + 2 * 8 properties */
-    YULBRAVI_TRACE_BYTES = 65536 /* 12 + 4 * 16381 cycles */
+    YULBRAVI_TABLE_BYTES = 288,   /* 16 + 4 * 64 rows + 2 * 8 properties */
+    YULBRAVI_TRACE_BYTES = 65536, /* 12 + 4 * 16381 cycles */
+    YULBRAVI_PROPERTIES = 8
 };
 
 /* YULBRAVI_REFUSED, .._BROKEN, .._SETTLED or .._PENDING. Not to be asked of `check`, whose 0 is no refusal. */
@@ -181,10 +196,40 @@ static inline uint32_t yulbravi_properties(const uint8_t *table)
     return (uint32_t)table[6] | (uint32_t)table[7] << 8;
 }
 
-/* Cycles of a trace that `judge` does not refuse. */
+/* Cycles of a trace that is not refused. */
 static inline uint32_t yulbravi_cycles(const uint8_t *trace)
 {
     return (uint32_t)trace[4] | (uint32_t)trace[5] << 8 | (uint32_t)trace[6] << 16 | (uint32_t)trace[7] << 24;
+}
+
+/* words: statuses */
+/* Exit statuses, as the commands have them. */
+enum {
+    YULBRAVI_EXIT_SETTLED = 0, /* every property is settled; of check, the table is accepted */
+    YULBRAVI_EXIT_BROKEN = 1,  /* a property is broken */
+    YULBRAVI_EXIT_NOT_RUN = 2, /* not run: used wrongly, a file that is not there or cannot be read, or output that could not be written */
+    YULBRAVI_EXIT_PENDING = 3, /* no property is broken and at least one is pending: not a pass */
+    YULBRAVI_EXIT_REFUSED = 4  /* refused: nothing is judged */
+};
+/* end of words: statuses */
+
+/* The exit status for the answers to all properties of a table: refused before all, then broken, then pending; settled only if all are.
+ * The refusal of a table is one answer. No answers at all are YULBRAVI_EXIT_REFUSED, since nothing was judged; so is the 0 of a check. */
+static inline int yulbravi_status(const uint64_t *answers, size_t count)
+{
+    size_t broken = 0, pending = 0, settled = 0;
+    for (size_t i = 0; i < count; i++) {
+        broken += yulbravi_kind(answers[i]) == YULBRAVI_BROKEN;
+        pending += yulbravi_kind(answers[i]) == YULBRAVI_PENDING;
+        settled += yulbravi_kind(answers[i]) == YULBRAVI_SETTLED;
+    }
+    if (count == 0 || broken + pending + settled < count) {
+        return YULBRAVI_EXIT_REFUSED;
+    }
+    if (broken > 0) {
+        return YULBRAVI_EXIT_BROKEN;
+    }
+    return pending > 0 ? YULBRAVI_EXIT_PENDING : YULBRAVI_EXIT_SETTLED;
 }
 
 #ifdef __cplusplus

@@ -1,5 +1,6 @@
 /* What the example host does not ask of the exports: property numbers that the table has not (refusal 12) and their place in the order,
- * answers to no bytes at all, and that lent bytes stay as they are. Prints the answers that are wrong, and 'N passed, M failed'. */
+ * answers to no bytes at all, and that lent bytes stay as they are; the plain names and the prefixed ones, called and as pointers; the
+ * exit status for answers of each kind. Prints the answers that are wrong, and 'N passed, M failed'. */
 #include <stdio.h>
 #include <string.h>
 
@@ -27,6 +28,35 @@ static uint32_t refusal(unsigned number, unsigned place)
     return (uint32_t)number << 16 | place;
 }
 
+/* A pointer to each function, by its plain and by its prefixed name, gets the same answers. */
+static void names(void)
+{
+    uint64_t (*const checks[])(const uint8_t *, size_t) = {check, yulbravi_check};
+    uint64_t (*const judges[])(const uint8_t *, size_t, const uint8_t *, size_t, uint32_t) = {judge, yulbravi_judge};
+    for (size_t i = 0; i < 2; i++) {
+        expect("a check by its pointer", checks[i](table, 3), YULBRAVI_REFUSED, refusal(YULBRAVI_TABLE_SHORT, 0));
+        expect("a judge by its pointer", judges[i](table, sizeof table, trace, sizeof trace, 2), YULBRAVI_SETTLED, 2);
+    }
+    expect("yulbravi_check", yulbravi_check(table, sizeof table), 0, 0);
+    expect("yulbravi_judge", yulbravi_judge(table, sizeof table, trace, sizeof trace, 1), YULBRAVI_PENDING, 2);
+}
+
+/* Answers in this order have these exit statuses: refused before all, then broken, then pending; 0 for settled ones alone. */
+static void statuses(void)
+{
+    static const uint64_t settled = (uint64_t)YULBRAVI_SETTLED << 32 | 2, pending = (uint64_t)YULBRAVI_PENDING << 32 | 2;
+    static const uint64_t broken = (uint64_t)YULBRAVI_BROKEN << 32 | 1, refused = (uint64_t)YULBRAVI_TRACE_WRONG << 16;
+    const uint64_t answers[] = {settled, settled, pending, settled, broken, pending, refused, settled};
+    static const uint32_t expected[] = {0, 0, 3, 3, 1, 1, 4, 4};
+    const uint64_t accepted = 0, unheard_of = (uint64_t)4 << 32;
+    for (size_t count = 1; count <= sizeof answers / sizeof answers[0]; count++) {
+        expect("status", (uint64_t)yulbravi_status(answers, count), 0, expected[count - 1]);
+    }
+    expect("status of no answers", (uint64_t)yulbravi_status(answers, 0), 0, YULBRAVI_EXIT_REFUSED);
+    expect("status of an accepted table alone", (uint64_t)yulbravi_status(&accepted, 1), 0, YULBRAVI_EXIT_REFUSED);
+    expect("status of no kind of answer", (uint64_t)yulbravi_status(&unheard_of, 1), 0, YULBRAVI_EXIT_REFUSED);
+}
+
 int main(void)
 {
     uint8_t lent_table[sizeof table], lent_trace[sizeof trace];
@@ -48,6 +78,9 @@ int main(void)
 
     expect("the table is unchanged", (uint64_t)(memcmp(lent_table, table, sizeof table) != 0), 0, 0);
     expect("the trace is unchanged", (uint64_t)(memcmp(lent_trace, trace, sizeof trace) != 0), 0, 0);
+
+    names();
+    statuses();
 
     printf("%u passed, %u failed\n", passed, failed);
     return failed != 0;
