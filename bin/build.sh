@@ -40,25 +40,25 @@ current() { # program|library
     [ -f "$built/$1.sources" ] && [ "$(cat -- "$built/$1.sources")" = "$(sources_of "$(crate_for "$1")")" ]
 }
 
-# Holds the clone for one run at a time, on descriptor 9, until `release`.
+# Holds the clone for one run at a time, on descriptor 8, until `release`.
 hold() {
     mkdir -p -- "$built" 2>/dev/null
     [ -w "$built" ] || {
         say "nothing can be built here: no right to write in $built"
         return 2
     }
-    exec 9>>"$built/lock"
+    exec 8>>"$built/lock"
     command -v flock >/dev/null || {
         say 'no flock on the path: it is in the package util-linux'
         return 2
     }
-    flock -n 9 && return
+    flock -n 8 && return
     say 'another run is proving in this clone: waiting for it to end'
-    until flock -w 1 9; do :; done
+    until flock -w 1 8; do :; done
 }
 
 release() {
-    exec 9>&-
+    exec 8>&-
 }
 
 # What is seen of a proof that goes on: a count that is written over on a terminal, else a line for each crate.

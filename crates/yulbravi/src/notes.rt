@@ -5,7 +5,7 @@ use libc::ENOENT;
 use libc::ENOTDIR;
 use libc::EPERM;
 
-const NOTES: i32 = 3;
+const NOTES: i32 = 9;
 
 // The status of what was not run: a file that could not be read.
 const NOT_RUN: u32 = 2;
