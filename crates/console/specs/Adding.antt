@@ -3,11 +3,11 @@ use Prim.Native.Nat.{ℕ, _+_, _≤_, _<_}
 use native.Mathlib.Omega.{arith}
 use native.Mathlib.Decide.{decLt}
 use mathlib.Core.List.{List}
-use mathlib.Core.Path.{_≡_, refl, sym, _∙_, ap, subst}
+use mathlib.Core.Path.{_≡_, sym, _∙_, ap, subst}
 use Rattle.psl.specs.Verdicts as Psl
 use Rattle.psl.specs.Verdicts.{broken, settled, pending}
 use Rattle.little.specs.Bytes.{u16At}
-use Rattle.table.specs.Reply.{Reply, refused, granted}
+use Rattle.table.specs.Reply.{refused, granted}
 use Rattle.table.specs.Check.{tableReply}
 use Rattle.table.specs.Facts.Accepted.{granted-subset}
 use Rattle.table.specs.Laws.Runs.{clash}
@@ -83,7 +83,8 @@ module _ (t file : List ℕ) (k : ℕ) where
   new : k < k + 1
   new = omega arith
 
-  none-broken : ((q m : ℕ) → q < k → ¬ Judged t file q (granted (broken m))) → NotBroken t file k → (q m : ℕ) → q < k + 1 → ¬ Judged t file q (granted (broken m))
+  none-broken : ((q m : ℕ) → q < k → ¬ Judged t file q (granted (broken m))) → NotBroken t file k
+      → (q m : ℕ) → q < k + 1 → ¬ Judged t file q (granted (broken m))
   none-broken none h q m l = up-to (NotBroken t file) k q l (λ b m′. none q m′ b) h m
 
   broken-more : {s : Standing} {n : ℕ} → StandsBelow t file k s → Judged t file k (granted (broken n)) → StandsBelow t file (k + 1) (withBroken s)
@@ -113,7 +114,8 @@ module _ (t file : List ℕ) (k : ℕ) where
 
 -- ---- All of them
 
-all-below : (t file : List ℕ) {counts : Counts} {s : Standing} → tableReply t ≡ granted counts → StandsBelow t file (counts .properties) s → Stands t file s
+all-below : (t file : List ℕ) {counts : Counts} {s : Standing} → tableReply t ≡ granted counts
+    → StandsBelow t file (counts .properties) s → Stands t file s
 all-below t file e (below-refused l j) = is-refused (refused-each (λ c f. below t e f l) (numbered-first t) j)
 all-below t file e (below-settled all) = is-settled e all
 all-below t file e (below-broken l j) = is-broken e l j
@@ -128,13 +130,13 @@ table-stands t file s (given {counts = c} e l f r) b =
 
 -- ---- What the first answer tells
 
-pub first-refused : (t file : List ℕ) (a : Answer) (s : Standing) {r : Refusal} → a ≡ Told.Refused r → Judged t file 0 (answerReply a) → s ≡ withAnswer Settled a
-    → Stands t file s
+pub first-refused : (t file : List ℕ) (a : Answer) (s : Standing) {r : Refusal} → a ≡ Told.Refused r → Judged t file 0 (answerReply a)
+    → s ≡ withAnswer Settled a → Stands t file s
 first-refused t file a s e j w =
     subst (Stands t file) (sym (w ∙ ap (withAnswer Settled) e)) (is-refused (subst (λ (x : Answer). Judged t file 0 (answerReply x)) e j))
 
-pub first-given : (t file : List ℕ) (a : Answer) (s z : Standing) {v : Verdict} → a ≡ Told.Given v → Judged t file 0 (answerReply a) → s ≡ withAnswer Settled a
-    → (1 ≤ u16At t 6 → StandsBelow t file 1 s → StandsBelow t file (u16At t 6) z) → Stands t file z
+pub first-given : (t file : List ℕ) (a : Answer) (s z : Standing) {v : Verdict} → a ≡ Told.Given v → Judged t file 0 (answerReply a)
+    → s ≡ withAnswer Settled a → (1 ≤ u16At t 6 → StandsBelow t file 1 s → StandsBelow t file (u16At t 6) z) → Stands t file z
 first-given t file a s z {v} e j w more =
     table-stands t file z (subst (λ (x : Answer). Judged t file 0 (answerReply x)) e j)
     (λ l. more l (subst (StandsBelow t file 1) (sym w) (answer-more t file 0 Settled a below-none j)))

@@ -1,11 +1,11 @@
--- HOW ALL PROPERTIES OF A TABLE STAND TOGETHER on a trace file, and the exit status that tells it: 0 only if every property is settled; 1 if one is broken;
--- 3 if none is broken and one is pending; 4 refused.
+-- HOW ALL PROPERTIES OF A TABLE STAND TOGETHER on a trace file, and the exit status that tells it: 0 only if every property is settled;
+-- 1 if one is broken; 3 if none is broken and one is pending; 4 refused.
 use Prim.Native.Nat.{ℕ, _<_}
 use native.Mathlib.Omega.{arith}
 use mathlib.Core.List.{List}
-use mathlib.Core.Path.{_≡_, refl, sym, _∙_, ap, subst}
+use mathlib.Core.Path.{_≡_, refl, sym, _∙_, subst}
 use Rattle.psl.specs.Verdicts.{Verdict, broken, settled, pending}
-use Rattle.table.specs.Reply.{Reply, refused, granted, not-both, granted-one, refused-one}
+use Rattle.table.specs.Reply.{refused, granted, not-both, granted-one, refused-one}
 use Rattle.table.specs.Check.{tableReply}
 use Rattle.table.specs.Facts.Accepted.{granted-subset}
 use Rattle.table.specs.Laws.Runs.{clash}
@@ -43,6 +43,14 @@ statusOf Settled = 0
 statusOf Broken = 1
 statusOf Pending = 3
 statusOf (Refused r) = 4
+
+-- 0 ONLY IF every property of an accepted table is settled on the file
+pub zero-settled : {t file : List ℕ} {s : Standing} → Stands t file s → statusOf s ≡ 0
+    → (counts : Counts) × (tableReply t ≡ granted counts) × ((p : ℕ) → p < counts .properties → (n : ℕ) × Judged t file p (granted (settled n)))
+zero-settled (is-settled {counts = c} e all) z = (c, e, all)
+zero-settled (is-refused j) z = absurd (omega arith)
+zero-settled (is-broken e l j) z = absurd (omega arith)
+zero-settled (is-pending e l j none) z = absurd (omega arith)
 
 -- ---- A refusal of one property is one of each, so that property 0 tells
 

@@ -100,7 +100,7 @@ fn others(table: &[u8], trace: &[u8], first: Told) -> Told
     Told { written, standing }
 }
 
-// A refusal of the table or of the trace is one of each property, so the first tells: one line then, else one of the cycles and one for each property.
+// A refusal of the table or of the trace is one of each property, so the first tells: one line then; else the cycles, and a line for each property.
 pub fn judged(table: &[u8], trace: &[u8]) -> Told
     ensures { λ r. ⌜ Stands (now (table .entry)) (now (trace .entry)) (r .standing) ⌝ }
 {

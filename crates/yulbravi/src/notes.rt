@@ -1,4 +1,4 @@
-// The notes: lines for the command, on a descriptor of their own. Where it is not open nobody asked for them, so that what is not written there is not missed.
+// The notes: lines for the command, on a descriptor of their own. Where it is not open nobody asked for them, so no failed write is told.
 use libc::EACCES;
 use libc::EISDIR;
 use libc::ENOENT;

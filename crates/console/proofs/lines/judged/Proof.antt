@@ -2,14 +2,6 @@ use Rattle.console.specs.Adding.{first-refused, first-given}
 use borrow.Author.Needs.{needs}
 use Rattle.console.proofs.lines.judged.Statement.{statement}
 use Rattle.console.proofs.lines.judged.Tie as tie
-use Rattle.console.proofs.lines.judged.Reads as reads
-use Rattle.console.proofs.lines.judged.Lts as lts
-use Rattle.console.proofs.lines.others.Reads as others-reads
-use Rattle.console.proofs.lines.say_cycles.Reads as say-cycles-reads
-use Rattle.console.proofs.lines.say_next.Reads as say-next-reads
-use Rattle.console.proofs.lines.say_property.Reads as say-property-reads
-use Rattle.console.proofs.standing.with_answer.Reads as with-answer-reads
-use Rattle.trace.proofs.judge.Reads as judge-reads
 
 judge-requires : tie.Need-judge-requires
 judge-requires c κs = search needs

@@ -5,12 +5,6 @@ use borrow.Author.Needs.{needs}
 use Rattle.console.specs.Adding.{StandsBelow, below-as, answer-more}
 use Rattle.console.proofs.lines.others.Statement.{statement}
 use Rattle.console.proofs.lines.others.Tie as tie
-use Rattle.console.proofs.lines.others.Reads as reads
-use Rattle.console.proofs.lines.others.Lts as lts
-use Rattle.console.proofs.lines.say_next.Reads as say-next-reads
-use Rattle.console.proofs.standing.with_answer.Reads as with-answer-reads
-use Rattle.little.proofs.u16_at.Reads as u16-at-reads
-use Rattle.trace.proofs.judge.Reads as judge-reads
 
 abbrev Inv-loop : tie.InvT-loop
 Inv-loop table trace properties written₀ standing₀ property₀ written standing property =

@@ -3,9 +3,6 @@ use Rattle.console.specs.Adding.{withAnswer}
 use borrow.Author.Needs.{needs}
 use Rattle.console.proofs.standing.with_answer.Statement.{statement}
 use Rattle.console.proofs.standing.with_answer.Tie as tie
-use Rattle.console.proofs.standing.with_answer.Reads as reads
-use Rattle.console.proofs.standing.with_answer.Lts as lts
-use Rattle.console.proofs.standing.with_verdict.Reads as with-verdict-reads
 
 enum-known-answer : tie.Need-enum-known-answer
 enum-known-answer c = search needs

@@ -3,8 +3,6 @@ use Rattle.console.specs.Adding.{withBroken}
 use borrow.Author.Needs.{needs}
 use Rattle.console.proofs.standing.with_broken.Statement.{statement}
 use Rattle.console.proofs.standing.with_broken.Tie as tie
-use Rattle.console.proofs.standing.with_broken.Reads as reads
-use Rattle.console.proofs.standing.with_broken.Lts as lts
 
 enum-told : tie.Need-enum-told
 enum-told c = search needs

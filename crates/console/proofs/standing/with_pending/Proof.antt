@@ -3,8 +3,6 @@ use Rattle.console.specs.Adding.{withPending}
 use borrow.Author.Needs.{needs}
 use Rattle.console.proofs.standing.with_pending.Statement.{statement}
 use Rattle.console.proofs.standing.with_pending.Tie as tie
-use Rattle.console.proofs.standing.with_pending.Reads as reads
-use Rattle.console.proofs.standing.with_pending.Lts as lts
 
 enum-told : tie.Need-enum-told
 enum-told c = search needs
