@@ -106,8 +106,8 @@ def hold_rows(holder, names):
     read, worded = [], []
     for place, line in enumerate(holder.lines("Rows")):
         data = holder.sized(line, ROW, "a row")
-        if data and data[0] == SIGNAL and line.words and not (holder.listing.named and "Signals" in holder.listing.sections):
-            names.setdefault(data[1], line.words)  # a name that could not be read is told already
+        if data and data[0] == SIGNAL and line.words and not holder.listing.all_named():
+            names.setdefault(data[1], line.words)  # that its name could not be read is told already
         says = None if data is None else row_says(data, read, names)
         read.append(says)
         worded.append(says and (line.words, says[1]))
@@ -159,12 +159,13 @@ def hold_version(holder, number):
         holder.note(holder.lines("Header")[0].at, number, "the version is not 1")
 
 
-def hold_sample(holder, line, names, signals):
+def hold_sample(holder, line, table, signals):
     data = holder.sized(line, SAMPLE, "a sample")
     if data is None:
         return
     bits = [k for k in range(32) if little(data) >> k & 1]
-    holder.says(line, " ".join(names.get(k, f"bit {k}") for k in bits) or "-")
+    if table.all_named() or set(bits) <= set(table.names):
+        holder.says(line, " ".join(table.names.get(k, f"bit {k}") for k in bits) or "-")
     if signals is not None and bits and bits[-1] >= signals:
         holder.note(line.at, 13, f"bit {bits[-1]} is no signal of the table")
 
@@ -181,7 +182,7 @@ def hold_trace(listing, told, table, signals, meant):
             " where the judge is to refuse it, have verdicts.txt beside it say 'refused 15 0'",
         )
     for line in holder.lines("Samples"):
-        hold_sample(holder, line, table.names, signals)
+        hold_sample(holder, line, table, signals)
     if holder.values[CYCLES] is not None and holder.values[CYCLES] > MOST_CYCLES:
         holder.note(holder.lines("Header")[CYCLES].at, 15, f"cycles are 0 to {MOST_CYCLES}")
     holder.counted("Samples", CYCLES, "samples")

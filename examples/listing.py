@@ -57,7 +57,7 @@ def lines_of(data, tell):
 
 
 class Listing:
-    """The lines of each heading, the lines that the headings stand in, the signals' names, and whether all of these could be read."""
+    """The lines of each heading, the lines that the headings stand in, and the signals' names."""
 
     def __init__(self, path, shape, told):
         self.path, self.shape, self.told = path, shape, told
@@ -65,6 +65,10 @@ class Listing:
         self.column, self.named = None, True
         with open(path, "rb") as file:
             self.read(list(lines_of(file.read(), self.tell)))
+
+    def all_named(self):
+        """Whether every name that is given could be read."""
+        return self.named and "Signals" in self.sections
 
     def tell(self, at, text):
         self.told.wrong(self.path, at, text)

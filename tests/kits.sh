@@ -178,15 +178,18 @@ kits_empty() {
     kits_wrong 1 "$kits_trace" 1 'the listing is empty'
     echo 'Words alone.' >"$kits_kit/$kits_trace"
     kits_wrong 1 "$kits_trace" 1 'no heading: a trace has Header, Samples'
+    kits_bare
+    : >"$kits_kit/table.txt"
+    kits_wrong 1 table.txt 1 'the listing is empty'
 }
 
 # What the judge refuses is told, and made; where the verdicts say so, it is not even told.
 kits_refusals() {
     kits_note table.txt 24 'kind 77 is none of the list in docs/judge.md: the judge refuses this with 5' \
-        '24s/04 00 00 00  !req/4D 00 00 00  kind 77/; 25,$s/!req/(kind 77)/g; 33,35s/(kind 77)/{kind 77}/g; 39,41s/(kind 77)/kind 77/g; 53s/(kind 77)/kind 77/
-            49s/(kind 77)/{kind 77}/'
+        '24s/04 00 00 00  !req/4D 00 00 00  kind 77/; 33,35s/!req/{kind 77}/; 49s/!req/{kind 77}/; 39,41s/!req/kind 77/; 53s/!req/kind 77/'
     kits_note table.txt 46 'kind 48, next!, is strong: the judge refuses this with 6' '46s/20 18 00 00  .*/30 00 00 00  kind 48/; 57s/weak.*/kind 48/'
-    kits_note table.txt 36 'row 99 does not stand above row 15: the judge refuses this with 7' '36s/01/63/; 36,38s/until ack/until row 99/; 51s/until ack/until row 99/'
+    kits_note table.txt 36 'row 99 does not stand above row 15: the judge refuses this with 7' \
+        '36s/01/63/; 36,38s/until ack/until row 99/; 51s/until ack/until row 99/'
     kits_note table.txt 23 "signal 7 is not below the header's 3 signals: the judge refuses this with 7" \
         '23s/02/07/; 23,46s/rst/signal 7/g; 57s/rst/signal 7/g'
     kits_note table.txt 26 'kind 4 does not use field b, and it is not 0: the judge refuses this with 7' '26s/02 00/02 01/'
@@ -314,6 +317,10 @@ kits_not_run() {
     kits_case 'a folder in place of a file' 2 err "make: $kits_kit/stray/trace.bin: Is a directory"
     kits_now | diff "$work/kits.before" -
     counts $? 'examples/make: half a kit is written'
+    rmdir "$kits_kit/stray/trace.bin"
+    kits_now >"$work/kits.before"
+    (ulimit -f 0 && examples/make "$kits_kit" 2>&1) | grep -F "make: $kits_kit/table.bin: File too large" >/dev/null && kits_now | diff "$work/kits.before" -
+    counts $? 'examples/make: something is left behind where there is no room'
 }
 
 kits_output() {
