@@ -20,11 +20,8 @@ TRACE = Shape("a trace", ("Header", "Samples"), ((2, "version {}"), (2, "{} sign
 
 WIDTHS = {"Header": (2, 4), "Rows": (4,), "Properties": (2,), "Samples": (4,)}
 PARTS = {"Signals": "a signal", "Header": "a field of the header", "Rows": "a row", "Properties": "a property", "Samples": "a sample"}
-FORMS = {
-    **{"Signals": "NUMBER  NAME  WORDS", "Header": "BYTES  WORDS", "Rows": "NUMBER  BYTES  WORDS", "Samples": "NUMBER  BYTES  WORDS"},
-    "Properties": "NUMBER  BYTES  WORDS, or below it words that begin no further left than its bytes, with no number and no byte,"
-    " and that have no two spaces together",
-}
+FORMS = {"Signals": "NUMBER  NAME  WORDS", "Header": "BYTES  WORDS"}
+NUMBERED = "NUMBER  BYTES  WORDS"
 NAME = re.compile(r"([0-9]{1,9})( +)(\w+)(?:( +)(.*))?")
 NUMBER = re.compile(r"[0-9]{1,9}")
 BYTE = re.compile(r"[0-9A-Fa-f]{2}")
@@ -142,7 +139,9 @@ class Listing:
         self.sections[section].append(Line(at, number, *self.bytes(at, bare, WIDTHS[section])))
 
     def neither(self, at, section, text):
-        self.tell(at, f"{shown(text)} is neither {PARTS[section]} nor a remark: {FORMS[section]}; a remark begins with '#'")
+        part = PARTS[section]
+        more = ", words on one begin no further left than its bytes (see --help)" if section == "Properties" else ""
+        self.tell(at, f"{shown(text)} is neither {part} nor a remark: {part} is '{FORMS.get(section, NUMBERED)}'{more}, a remark begins with '#'")
 
     def explains(self, text):
         """Whether a line is words on the property above it."""

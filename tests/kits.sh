@@ -78,6 +78,7 @@ kits_same() { # FILE SED-COMMAND
 # What the bytes say and what the words say.
 kits_words() {
     kits_edit 1 table.txt 36 "the bytes say 'req until ack', the words say 'req until rst'" '36s/ack/rst/'
+    kits_edit 1 table.txt 24 "the bytes say '!req', the words say '!rst'" '24,53s/!req/!rst/g'
     kits_edit 1 table.txt 24 "the bytes say '!req', no words stand beside them" '24s/!req//'
     kits_edit 1 table.txt 14 "the bytes say '26 rows', the words say '27 rows'" '14s/26/27/'
     kits_edit 1 table.txt 53 "the bytes say 'never {!ack ; (ack & !req)}', the words say 'never'" '53s/ {.*//'
@@ -233,7 +234,7 @@ kits_made() {
     kits_bare
     kits_run "$kits_kit"
     kits_case 'a kit' 0 out 'kit: table.bin, and trace.bin in 6 folders'
-    kits_case 'a kit, how to go on' 0 out "judge one: bin/judge $kits_kit/acknowledged"
+    kits_case 'a kit, how to go on' 0 out 'judge one: bin/judge '
     diff -r examples/handshake "$kits_kit" && [ "$(readlink "$kits_kit/stray/table.bin")" = ../table.bin ] && [ ! -s "$work/kits.err" ]
     counts $? 'examples/make: a kit made from its listings is not as the example'
     bin/judge "$kits_kit/stops-short" 2>/dev/null | diff "$kits_kit/stops-short/verdicts.txt" -
@@ -245,7 +246,7 @@ kits_made() {
     counts $? 'examples/make: made again, a kit is another'
     rm -rf "${kits_kit:?}"/*/
     kits_run "$kits_kit"
-    kits_case 'a kit without recordings' 0 out 'kit: table.bin, and no folder with a trace.txt'
+    kits_case 'a kit without recordings' 0 out 'kit: table.bin; no folder in it has a trace.txt'
 }
 
 kits_links() {
