@@ -81,7 +81,7 @@ start() { # COMMAND..
     started=$!
     for signal in HUP INT TERM; do
         # shellcheck disable=SC2064
-        trap "kill -TERM -- -$started 2>/dev/null; wait $started; rm -rf '$room'; trap - $signal; kill -$signal $$" "$signal"
+        trap "kill -s TERM -- -$started 2>/dev/null; wait $started; rm -rf '$room'; trap - $signal; kill -$signal $$" "$signal"
     done
 }
 
@@ -119,7 +119,8 @@ keep() { # FILE NAME
 
 keep_program() {
     keep "$tools/lib/ld-linux-x86-64.so.2" ld-linux-x86-64.so.2 && keep "$tools/lib/libc.so.6" libc.so.6 &&
-        { [ -z "$emulator" ] || keep "$emulator" qemu-x86_64; } && keep "$home/target/bin/yulbravi" yulbravi
+        { [ -z "$emulator" ] || keep "$emulator" qemu-x86_64; } && keep "$home/target/bin/yulbravi" yulbravi &&
+        rt version >"$built/toolchain.new" && mv -f -- "$built/toolchain.new" "$built/toolchain"
 }
 
 # The proved library, its functions under their prefixed names too: second names of the same code in the same object, so that the linker tells a host with a `check`
@@ -145,15 +146,17 @@ build_held() { # program|library
         say "the $1 is not proved: nothing is run"
         return 2
     }
-    "keep_$1" && rt version >"$built/toolchain.new" && mv -f -- "$built/toolchain.new" "$built/toolchain" &&
-        printf '%s\n' "$build_sources" >"$built/$1.new" && mv -f -- "$built/$1.new" "$built/$1.sources"
+    "keep_$1" && printf '%s\n' "$build_sources" >"$built/$1.new" && mv -f -- "$built/$1.new" "$built/$1.sources"
 }
 
+# What one user builds, others of the clone may run, whatever that user's own files are like.
 build() { # program|library
     ! current "$1" || return 0
-    hold || return 2
-    build_held "$1"
+    build_umask=$(umask)
+    umask 022
+    hold && build_held "$1"
     ended=$?
     release
-    return "$ended"
+    umask "$build_umask"
+    [ "$ended" -eq 0 ] || return 2
 }

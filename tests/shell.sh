@@ -137,10 +137,11 @@ building_ended() {
     RT_TAKES=61 RATTLE_HOME=$kit TMPDIR=$work/tmp PATH="$clone/tools:$PATH" "$clone/bin/judge" "$short" >/dev/null 2>&1 &
     building=$!
     sleep 1
+    told_at=$(date +%s)
     kill -TERM "$building"
     wait "$building"
-    [ $? -eq 143 ] && ! pgrep -f "$clone/tools/rt" >/dev/null && rmdir "$work/tmp"
-    counts $? 'TERM while it builds leaves something behind'
+    [ $? -eq 143 ] && [ $(($(date +%s) - told_at)) -lt 20 ] && ! pgrep -f "$clone/tools/rt" >/dev/null && rmdir "$work/tmp"
+    counts $? 'TERM while it builds does not end it, or leaves something behind'
     judges there "$clone/bin/judge" "$short"
 }
 
