@@ -2,8 +2,8 @@
 use crate::notes::note;
 use crate::notes::note_one;
 use crate::notes::note_two;
-use console::standing::Standing;
 use little::u16_at;
+use standing::Standing;
 use table::Refusal;
 use trace::Header;
 

@@ -4,14 +4,14 @@ mod causes;
 mod notes;
 
 ghost use Rattle.io.specs.Counts.{Counts};
-use console::files::Got;
-use console::files::read_file;
-use console::files::table_room;
-use console::files::trace_room;
-use console::lines::checked;
-use console::lines::judged;
-use console::standing::Standing;
-use console::standing::status;
+use console::checked;
+use console::judged;
+use files::Got;
+use files::read_file;
+use files::table_room;
+use files::trace_room;
+use standing::Standing;
+use standing::status;
 use table::Checked;
 
 // The places of the arguments, and how many there are with the program's own name.

@@ -1,7 +1,7 @@
-use Rattle.console.specs.Adding.{first-refused, first-given}
+use Rattle.standing.specs.Adding.{first-refused, first-given}
 use borrow.Author.Needs.{needs}
-use Rattle.console.proofs.lines.judged.Statement.{statement}
-use Rattle.console.proofs.lines.judged.Tie as tie
+use Rattle.console.proofs.judged.Statement.{statement}
+use Rattle.console.proofs.judged.Tie as tie
 
 judge-requires : tie.Need-judge-requires
 judge-requires c κs = search needs

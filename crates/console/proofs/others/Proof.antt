@@ -2,9 +2,9 @@ use Prim.Native.Nat.{_-_, _≤_}
 use native.Mathlib.Omega.{arith}
 use mathlib.Core.Path.{_≡_, sym, _∙_, subst}
 use borrow.Author.Needs.{needs}
-use Rattle.console.specs.Adding.{StandsBelow, below-as, answer-more}
-use Rattle.console.proofs.lines.others.Statement.{statement}
-use Rattle.console.proofs.lines.others.Tie as tie
+use Rattle.standing.specs.Adding.{StandsBelow, below-as, answer-more}
+use Rattle.console.proofs.others.Statement.{statement}
+use Rattle.console.proofs.others.Tie as tie
 
 abbrev Inv-loop : tie.InvT-loop
 Inv-loop table trace properties written₀ standing₀ property₀ written standing property =

@@ -1,8 +1,8 @@
 use mathlib.Core.Path.{ap, sym}
-use Rattle.console.specs.Adding.{withBroken}
+use Rattle.standing.specs.Adding.{withBroken}
 use borrow.Author.Needs.{needs}
-use Rattle.console.proofs.standing.with_broken.Statement.{statement}
-use Rattle.console.proofs.standing.with_broken.Tie as tie
+use Rattle.standing.proofs.with_broken.Statement.{statement}
+use Rattle.standing.proofs.with_broken.Tie as tie
 
 enum-told : tie.Need-enum-told
 enum-told c = search needs

@@ -1,8 +1,8 @@
 use mathlib.Core.Path.{ap, sym}
-use Rattle.console.specs.Adding.{withPending}
+use Rattle.standing.specs.Adding.{withPending}
 use borrow.Author.Needs.{needs}
-use Rattle.console.proofs.standing.with_pending.Statement.{statement}
-use Rattle.console.proofs.standing.with_pending.Tie as tie
+use Rattle.standing.proofs.with_pending.Statement.{statement}
+use Rattle.standing.proofs.with_pending.Tie as tie
 
 enum-told : tie.Need-enum-told
 enum-told c = search needs

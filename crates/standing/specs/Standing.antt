@@ -14,8 +14,8 @@ use Rattle.table.specs.declared.Refusal.{Refusal}
 use Rattle.monitor.specs.Unique.{too-far}
 use Rattle.trace.specs.Judging.{Judged, no-table, no-property, no-trace, given}
 use Rattle.trace.specs.Unique.{judged-one}
-use Rattle.console.specs.declared.standing.Standing.{Standing}
-use Rattle.console.specs.declared.standing.Standing.the-variants.{Settled, Broken, Pending, Refused}
+use Rattle.standing.specs.declared.Standing.{Standing}
+use Rattle.standing.specs.declared.Standing.the-variants.{Settled, Broken, Pending, Refused}
 
 -- Of an accepted table, p numbers a property.
 abbrev pub Numbered : List ℕ → ℕ → Type 0

@@ -20,9 +20,9 @@ use Rattle.monitor.specs.declared.Answer.{Answer}
 use Rattle.monitor.specs.declared.Answer.the-variants as Told
 use Rattle.trace.specs.Judging.{Judged, given}
 use Rattle.trace.specs.Unique.{judged-one}
-use Rattle.console.specs.Standing.{Stands, is-refused, is-settled, is-broken, is-pending, numbered-first, refused-each, below}
-use Rattle.console.specs.declared.standing.Standing.{Standing}
-use Rattle.console.specs.declared.standing.Standing.the-variants.{Settled, Broken, Pending, Refused}
+use Rattle.standing.specs.Standing.{Stands, is-refused, is-settled, is-broken, is-pending, numbered-first, refused-each, below}
+use Rattle.standing.specs.declared.Standing.{Standing}
+use Rattle.standing.specs.declared.Standing.the-variants.{Settled, Broken, Pending, Refused}
 
 -- What the code answers, case by case.
 abbrev pub withBroken : Standing → Standing

@@ -1,8 +1,8 @@
 use mathlib.Core.Path.{ap, sym, _∙_}
-use Rattle.console.specs.Adding.{withAnswer}
+use Rattle.standing.specs.Adding.{withAnswer}
 use borrow.Author.Needs.{needs}
-use Rattle.console.proofs.standing.with_answer.Statement.{statement}
-use Rattle.console.proofs.standing.with_answer.Tie as tie
+use Rattle.standing.proofs.with_answer.Statement.{statement}
+use Rattle.standing.proofs.with_answer.Tie as tie
 
 enum-known-answer : tie.Need-enum-known-answer
 enum-known-answer c = search needs

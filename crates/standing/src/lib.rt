@@ -1,7 +1,7 @@
 // How all properties of a table stand together: refused before all, then broken, then pending; settled only if all are.
 ghost use mathlib.Core.Path.{_≡_};
-ghost use Rattle.console.specs.Standing.{statusOf};
-ghost use Rattle.console.specs.Adding.{withBroken, withPending, withVerdict, withAnswer};
+ghost use Rattle.standing.specs.Standing.{statusOf};
+ghost use Rattle.standing.specs.Adding.{withBroken, withPending, withVerdict, withAnswer};
 use monitor::Answer;
 use monitor::Verdict;
 use table::Refusal;
@@ -58,7 +58,7 @@ fn with_verdict(standing: Standing, verdict: Verdict) -> Standing
 }
 
 // The standing of some properties and one more.
-pub(crate) fn with_answer(standing: Standing, answer: Answer) -> Standing
+pub fn with_answer(standing: Standing, answer: Answer) -> Standing
     ensures { λ r. ⌜ r ≡ withAnswer standing answer ⌝ }
 {
     match answer {
