@@ -137,7 +137,7 @@ keep_library() {
 # Builds while the clone is held.
 build_held() { # program|library
     ! current "$1" || return 0
-    . "$home/bin/kit.sh"
+    . "$home/bin/toolchain.sh"
     build_crate=$(crate_for "$1") build_verb=check
     [ "$1" = program ] || build_verb=staticlib
     build_sources=$(sources_of "$build_crate") build_count=$(crates_of "$build_crate" | wc -l)

@@ -1,5 +1,5 @@
 # install.sh, for tests/lab to source: bin/install, what it puts under a prefix, hosts in C and C++ over that, and the example host of the
-# clone. Uses `counts`, `$work` and what bin/kit.sh has; the current directory is the repository's top.
+# clone. Uses `counts`, `$work` and what bin/toolchain.sh has; the current directory is the repository's top.
 
 prefix="$work/a prefix"
 kits=$prefix/share/doc/yulbravi/examples
@@ -230,7 +230,7 @@ install_hosts() {
 
 # Runs a command with an rt on the path that only fails, so that nothing can be proved, and with CDPATH set.
 install_unproved() { # COMMAND..
-    PATH="$work/fails:$PATH" RATTLE_HOME="$kit" CDPATH=/ "$@"
+    PATH="$work/fails:$PATH" RATTLE_HOME="$toolchain" CDPATH=/ "$@"
 }
 
 # examples/host/build and run in the clone.
@@ -263,7 +263,7 @@ install_clone() {
 # A copy of the example host's part of the clone, whose library is always current: what `run` keeps is built anew after each edit.
 install_edits() {
     mkdir -p "$work/copy/bin" "$work/copy/examples" "$work/copy/built" && cp -R include "$work/copy" && cp -R examples/host "$work/copy/examples" &&
-        cp bin/kit.sh "$work/copy/bin" && cp built/libyulbravi.a "$work/copy/built" && echo 'build() { :; }' >"$work/copy/bin/build.sh"
+        cp bin/toolchain.sh "$work/copy/bin" && cp built/libyulbravi.a "$work/copy/built" && echo 'build() { :; }' >"$work/copy/bin/build.sh"
     counts $? 'no copy of the example host'
     dir=examples/handshake/stops-short
     ln -s "$work/copy/examples/host/run" "$work/run by link"

@@ -88,7 +88,7 @@ END
 
 # A command in the copy.
 there() { # COMMAND..
-    RATTLE_HOME=$kit PATH="$clone/tools:$PATH" "$@"
+    RATTLE_HOME=$toolchain PATH="$clone/tools:$PATH" "$@"
 }
 
 calls() { # COUNT LABEL
@@ -119,14 +119,14 @@ built_once() {
     printf '\n' >>"$clone/crates/yulbravi/src/main.rt"
     there "$clone/bin/yulbravi" --version | grep -q 'the sources have changed since'
     counts $? 'an old program is said to be proved'
-    does 2 '' 'the program is not proved: nothing is run' env RT_ENDS=1 RT_TAKES=0 RATTLE_HOME="$kit" PATH="$clone/tools:$PATH" "$clone/bin/judge" "$short"
+    does 2 '' 'the program is not proved: nothing is run' env RT_ENDS=1 RT_TAKES=0 RATTLE_HOME="$toolchain" PATH="$clone/tools:$PATH" "$clone/bin/judge" "$short"
     judges there "$clone/bin/judge" "$short"
     calls 3 'the prover is not called though a source has changed'
 }
 
 seen_on_a_terminal() {
     printf '\n' >>"$clone/crates/yulbravi/src/main.rt"
-    RATTLE_HOME=$kit PATH="$clone/tools:$PATH" script -qec "'$clone/bin/judge' '$short'" /dev/null </dev/null >"$work/wrote" 2>&1
+    RATTLE_HOME=$toolchain PATH="$clone/tools:$PATH" script -qec "'$clone/bin/judge' '$short'" /dev/null </dev/null >"$work/wrote" 2>&1
     tr '\r' '\n' <"$work/wrote" | grep -q '^yulbravi: [12] of [0-9]* crates are proved, [0-9]* s'
     counts $? 'no count is shown on a terminal'
 }
@@ -134,7 +134,7 @@ seen_on_a_terminal() {
 building_ended() {
     printf '\n' >>"$clone/crates/yulbravi/src/main.rt"
     mkdir "$work/tmp"
-    RT_TAKES=61 RATTLE_HOME=$kit TMPDIR=$work/tmp PATH="$clone/tools:$PATH" "$clone/bin/judge" "$short" >/dev/null 2>&1 &
+    RT_TAKES=61 RATTLE_HOME=$toolchain TMPDIR=$work/tmp PATH="$clone/tools:$PATH" "$clone/bin/judge" "$short" >/dev/null 2>&1 &
     building=$!
     sleep 1
     told_at=$(date +%s)
@@ -156,7 +156,7 @@ another_user() {
         judges $other env RATTLE_HOME= PATH=/usr/bin:/bin "$clone/bin/judge" "$clone/$short"
         does 2 'refused 15 0\n' 'may not be read by you' $other env RATTLE_HOME= PATH=/usr/bin:/bin "$clone/bin/judge" "$clone/$short/table.bin" "$work/closed"
         printf '\n' >>"$clone/crates/yulbravi/src/main.rt"
-        does 2 '' 'no right to write' $other env RATTLE_HOME="$kit" PATH="$clone/tools:$PATH" "$clone/bin/judge" "$clone/$short"
+        does 2 '' 'no right to write' $other env RATTLE_HOME="$toolchain" PATH="$clone/tools:$PATH" "$clone/bin/judge" "$clone/$short"
     }
     chmod u+w "$clone/built"
 }
