@@ -61,7 +61,7 @@ ended_by() { # SIGNAL STATUS
     waiting=$!
     sleep 1
     kill "-$1" "$waiting"
-    wait "$waiting"
+    { wait "$waiting"; } 2>/dev/null
     [ $? -eq "$2" ] && ! pgrep -f "$work/fifo" >/dev/null && rmdir "$work/tmp"
     counts $? "$1 leaves something behind"
     rm -rf "$work/tmp"
@@ -139,7 +139,7 @@ building_ended() {
     sleep 1
     told_at=$(date +%s)
     kill -TERM "$building"
-    wait "$building"
+    { wait "$building"; } 2>/dev/null
     [ $? -eq 143 ] && [ $(($(date +%s) - told_at)) -lt 20 ] && ! pgrep -f "$clone/tools/rt" >/dev/null && rmdir "$work/tmp"
     counts $? 'TERM while it builds does not end it, or leaves something behind'
     judges there "$clone/bin/judge" "$short"
