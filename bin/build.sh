@@ -76,8 +76,8 @@ show_proved() { # LOG TOTAL SECONDS
 # Starts a command at the clone's top, in a session and with a folder of its own for its output and temporary files: a signal that ends this script ends all of
 # that, and leaves no folder. Programs that the prover runs as nobody have to get through the folder.
 start() { # COMMAND..
-    room=$(mktemp -d) && chmod 711 "$room" || return 2
-    (cd -- "$home" && TMPDIR=$room exec setsid "$@") >"$room/log" 2>&1 &
+    room=$(mktemp -d) && chmod 711 "$room" && : >"$room/log" || return 2
+    (cd -- "$home" && TMPDIR=$room exec setsid "$@") >>"$room/log" 2>&1 &
     started=$!
     for signal in HUP INT TERM; do
         # shellcheck disable=SC2064

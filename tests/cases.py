@@ -6,24 +6,13 @@ can be empty. What is expected is written here by hand, from document 01 and tic
 import pathlib
 import sys
 
+sys.dont_write_bytecode = True
+from made import table, trace  # noqa: E402 (no bytecode is left beside it)
+
 OUT = pathlib.Path(sys.argv[1])
 
 SIGNAL, NOT, THEN, FUSE, ALT, STAR, PLUS = 3, 4, 16, 17, 18, 19, 20
 WEAK, ALWAYS, UNTIL, SUFFIX, SUFFIX_NEXT, NEVER = 32, 38, 39, 40, 41, 42
-
-
-def little(width, *numbers):
-    return b"".join(n.to_bytes(width, "little") for n in numbers)
-
-
-def table(signals, rows, roots):
-    rows = [bytes((tuple(row) + (0, 0, 0))[:4]) for row in rows]
-    end = 16 + 4 * len(rows)
-    return little(2, 1, signals, len(rows), len(roots), 16, end) + little(4, end + 2 * len(roots)) + b"".join(rows) + little(2, *roots)
-
-
-def trace(signals, samples):
-    return little(2, 1, signals) + little(4, len(samples), 12, *samples)
 
 
 def changed(data, at, *values):

@@ -8,6 +8,9 @@ import pathlib
 import re
 import sys
 
+sys.dont_write_bytecode = True
+from made import table, trace  # noqa: E402 (no bytecode is left beside it)
+
 PAGE = pathlib.Path(__file__).resolve().parent.parent / "docs" / "RULES.md"
 NAMED = "docs/RULES.md"
 FEWEST_RUNS, FEWEST_LIMITS = 40, 6
@@ -30,20 +33,6 @@ NUMBER = re.compile(r"\d+(?:,\d{3})*")
 
 class Unread(Exception):
     """What is wrong with a row."""
-
-
-def little(width, *numbers):
-    return b"".join(n.to_bytes(width, "little") for n in numbers)
-
-
-def table(signals, rows, roots):
-    rows = [bytes((tuple(row) + (0, 0, 0))[:4]) for row in rows]
-    end = 16 + 4 * len(rows)
-    return little(2, 1, signals, len(rows), len(roots), 16, end) + little(4, end + 2 * len(roots)) + b"".join(rows) + little(2, *roots)
-
-
-def trace(signals, samples):
-    return little(2, 1, signals) + little(4, len(samples), 12, *samples)
 
 
 class Reader:

@@ -59,7 +59,7 @@ ended_by() { # SIGNAL STATUS
     mkdir "$work/tmp"
     env --default-signal=INT TMPDIR="$work/tmp" bin/judge "$short/table.bin" "$work/fifo" >"$work/wrote" 2>"$work/told" &
     waiting=$!
-    sleep 1
+    sleep 2
     kill "-$1" "$waiting"
     { wait "$waiting"; } 2>/dev/null
     [ $? -eq "$2" ] && ! pgrep -f "$work/fifo" >/dev/null && rmdir "$work/tmp"
@@ -97,9 +97,9 @@ calls() { # COUNT LABEL
 }
 
 two_at_once() {
-    there "$clone/bin/judge" "$short" >"$work/wrote1" 2>"$work/told1" &
+    there env RT_TAKES=2 "$clone/bin/judge" "$short" >"$work/wrote1" 2>"$work/told1" &
     one=$!
-    there "$clone/bin/judge" "$short" >"$work/wrote2" 2>"$work/told2"
+    there env RT_TAKES=2 "$clone/bin/judge" "$short" >"$work/wrote2" 2>"$work/told2"
     two=$?
     wait "$one"
     [ $? -eq 3 ] && [ "$two" -eq 3 ] && cmp -s "$short/verdicts.txt" "$work/wrote1" && cmp -s "$short/verdicts.txt" "$work/wrote2"
@@ -136,7 +136,7 @@ building_ended() {
     mkdir "$work/tmp"
     RT_TAKES=61 RATTLE_HOME=$toolchain TMPDIR=$work/tmp PATH="$clone/tools:$PATH" "$clone/bin/judge" "$short" >/dev/null 2>&1 &
     building=$!
-    sleep 1
+    sleep 2
     told_at=$(date +%s)
     kill -TERM "$building"
     { wait "$building"; } 2>/dev/null
@@ -164,14 +164,17 @@ another_user() {
 # tests/run shows the lines of its parts as they come, adds them up, and fails where one fails.
 the_test_command() {
     mkdir "$clone/tests" && cp tests/run "$clone/tests"
-    printf 'echo begun; sleep 2; echo "2 passed, 0 failed"\n' >"$clone/tests/compare"
+    printf 'echo begun; sleep 5; echo "2 passed, 0 failed"\n' >"$clone/tests/compare"
     printf 'echo "3 passed, ${BAD:-0} failed"; exit ${BAD:-0}\n' >"$clone/tests/lab"
     printf '#!/bin/sh\necho "1 passed, 0 failed"\n' >"$clone/tools/rt"
     there sh "$clone/tests/run" >"$work/wrote" 2>&1 &
     running=$!
-    sleep 1.8
-    grep -q '^begun' "$work/wrote" && ! grep -q '^2 passed' "$work/wrote"
-    counts $? 'tests/run does not show lines as they come'
+    tries=100
+    until grep -q '^begun' "$work/wrote" || [ "$((tries -= 1))" -eq 0 ]; do sleep 0.2; done
+    [ "$tries" -gt 0 ] && ! grep -q '^2 passed' "$work/wrote"
+    same=$?
+    counts "$same" 'tests/run does not show lines as they come'
+    [ "$same" -eq 0 ] || sed 's/^/    /' "$work/wrote"
     wait "$running" && [ "$(tail -n 1 "$work/wrote")" = '6 passed, 0 failed' ]
     counts $? 'tests/run does not add up its parts'
     there env BAD=1 sh "$clone/tests/run" >"$work/wrote" 2>&1
