@@ -1,5 +1,5 @@
-# shell.sh, for tests/lab to source after commands.sh: that the commands are robust in a shell, and that runs of one clone do not disturb each other. Building is tried
-# in a copy of the clone, with an `rt` that takes its time and proves nothing: what the prover says is no matter here.
+# shell.sh, for tests/lab to source after commands.sh: that the commands are robust in a shell, and that runs of one clone do not disturb each
+# other. Building is tried in a copy of the clone, with an `rt` that takes its time and proves nothing: what the prover says is no matter here.
 
 short=examples/handshake/stops-short
 here=$PWD
