@@ -54,7 +54,12 @@ hold() {
     }
     flock -n 8 && return
     say 'another run is proving in this clone: waiting for it to end'
-    until flock -w 1 8; do :; done
+    waited=0
+    until flock -w 1 8; do
+        waited=$((waited + 1))
+        [ ! -t 2 ] || printf '\ryulbravi: waiting, %s s \033[K' "$waited" >&2
+    done
+    [ ! -t 2 ] || printf '\n' >&2
 }
 
 release() {

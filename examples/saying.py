@@ -90,7 +90,7 @@ def row_refused(row, place, signals):
     if kind in STRONG:
         return [(6, f"kind {kind}, {STRONG[kind]}, is strong")]
     if kind not in OPERANDS:
-        return [(5, f"kind {kind} is none of the list in docs/judge.md")]
+        return [(5, f"kind {kind} is none of the list in docs/RULES.md")]
     used = OPERANDS[kind]
     if kind == SIGNAL:
         found = [f"signal {fields[0]} is not below the header's {signals} signals"] if signals is not None and fields[0] >= signals else []

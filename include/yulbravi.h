@@ -78,38 +78,22 @@ enum {
 static inline const char *yulbravi_what(unsigned number)
 {
     switch (number) {
-    case 1:
-        return "the table has fewer than 16 bytes";
-    case 2:
-        return "the table's version is not 1";
-    case 3:
-        return "signals not 1 to 32, rows not 1 to 64, or properties not 1 to 8";
-    case 4:
-        return "an offset, the total or the file's length is wrong";
-    case 5:
-        return "the row's kind is none of the list";
-    case 6:
-        return "a strong operator: next!, until!, eventually!";
-    case 7:
-        return "an operand names no earlier row, a signal is not declared, or an unused field is not 0";
-    case 8:
-        return "an operand of the wrong class, as a property where a Boolean belongs";
-    case 9:
-        return "the property's root is no row, or is a sequence";
-    case 10:
-        return "a sequence or property row is used never or more than once";
-    case 11:
-        return "a weak sequence of more than 6 cells";
-    case 12:
-        return "there is no property of this number";
-    case 13:
-        return "a sample sets a bit that is no signal of the table";
-    case 14:
-        return "4,294,967,295 cycles are read and the property is still pending, or the monitor's opening was refused";
-    case 15:
-        return "the trace's header or length is wrong, or it is of another number of signals than the table";
-    default:
-        return "";
+    case 1: return "the table has fewer than 16 bytes";
+    case 2: return "the table's version is not 1";
+    case 3: return "signals not 1 to 32, rows not 1 to 64, or properties not 1 to 8";
+    case 4: return "an offset, the total or the file's length is wrong";
+    case 5: return "the row's kind is none of the list";
+    case 6: return "a strong operator: next!, until!, eventually!";
+    case 7: return "an operand names no earlier row, a signal is not declared, or an unused field is not 0";
+    case 8: return "an operand of the wrong class, as a property where a Boolean belongs";
+    case 9: return "the property's root is no row, or is a sequence";
+    case 10: return "a sequence or property row is used never or more than once";
+    case 11: return "a weak sequence of more than 6 cells";
+    case 12: return "there is no property of this number";
+    case 13: return "a sample sets a bit that is no signal of the table";
+    case 14: return "4,294,967,295 cycles are read and the property is still pending, or the monitor's opening was refused";
+    case 15: return "the trace's header or length is wrong, or it is of another number of signals than the table";
+    default: return "";
     }
 }
 
@@ -117,43 +101,27 @@ static inline const char *yulbravi_what(unsigned number)
 static inline const char *yulbravi_to_do(unsigned number)
 {
     switch (number) {
-    case 1:
-        return "copy the file again, or name the right one; one that is missing or cannot be read counts as empty";
-    case 2:
-        return "this is no table file, or one of a later kind: ask the kit's author";
-    case 3:
-        return "split a large kit into several tables; mend a count of 0";
-    case 4:
-        return "the file was cut or grew on its way: copy it again; else write the header anew";
-    case 5:
-        return "mend the row; the kinds are in docs/RULES.md";
-    case 6:
-        return "these ask for what may come after any recording's end: use the weak form, or a bound, as property 0 of "
-               "examples/handshake has";
-    case 7:
-        return "put rows after those that they use; raise the signals in the header";
-    case 8:
-        return "only Booleans can be negated, stand before -> or after until; a sequence is made a property by weak {..}";
-    case 9:
-        return "name the row of weak {..} or never {..} over the sequence";
-    case 10:
-        return "remove it, or copy it: each use needs its own row; Booleans may be shared";
-    case 11:
-        return "shorten it; a first part of one length can go before, weak {a ; b} and {a ; b} |=> weak {rest}. Left sides and"
-               " never may be longer";
-    case 12:
-        return "numbers go from 0 to one less than the table's count; hosts in C and recorders that open a monitor meet this, "
-               "the commands never";
-    case 13:
-        return "the recorder has more wires than the kit declares, or the trace is of another kit: leave those wires out, or "
-               "declare them in the table";
-    case 14:
-        return "open a new monitor, or look at that refusal; only monitors that are fed cycle by cycle answer it";
-    case 15:
-        return "copy it again, or give the trace that belongs to the table; of more than 16,381 cycles give the first 16,381. "
-               "One that is missing counts as empty";
-    default:
-        return "";
+    case 1: return "copy the file again, or name the right one; one that is missing or cannot be read counts as empty";
+    case 2: return "this is no table file, or one of a later kind: ask the kit's author";
+    case 3: return "split a large kit into several tables; mend a count of 0";
+    case 4: return "the file was cut or grew on its way: copy it again; else write the header anew";
+    case 5: return "mend the row; the kinds are in RULES.md";
+    case 6: return "these ask for what may come after any recording's end: use the weak form, or a bound, as property 0 of "
+                    "examples/handshake has";
+    case 7: return "put rows after those that they use; raise the signals in the header";
+    case 8: return "only Booleans can be negated, stand before -> or after until; a sequence is made a property by weak {..}";
+    case 9: return "name the row of weak {..} or never {..} over the sequence";
+    case 10: return "remove it, or copy it: each use needs its own row; Booleans may be shared";
+    case 11: return "shorten it; a first part of one length can go before, weak {a ; b} and {a ; b} |=> weak {rest}. Left sides and"
+                    " never may be longer";
+    case 12: return "numbers go from 0 to one less than the table's count; hosts in C and recorders that open a monitor meet this, "
+                    "the commands never";
+    case 13: return "the recorder has more wires than the kit declares, or the trace is of another kit: leave those wires out, or "
+                    "declare them in the table";
+    case 14: return "open a new monitor, or look at that refusal; only monitors that are fed cycle by cycle answer it";
+    case 15: return "copy it again, or give the trace that belongs to the table; of more than 16,381 cycles give the first 16,381. "
+                    "One that is missing counts as empty";
+    default: return "";
     }
 }
 /* end of words: refusals */

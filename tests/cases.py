@@ -27,7 +27,7 @@ def case(name, table_bytes, trace_bytes, *lines):
     (folder / "verdicts.txt").write_text("".join(line + "\n" for line in lines))
 
 
-# always a; a until b; never {a}: with these the last of many cycles can break, settle or leave pending.
+# always a; a until b; never {b ; b}: with these the last of many cycles can break, settle or leave pending.
 ROWS = [(SIGNAL, 0), (SIGNAL, 1), (ALWAYS, 0), (UNTIL, 0, 1), (THEN, 1, 1), (NEVER, 4)]
 THREE = table(2, ROWS, [2, 3, 5])
 TWO_CYCLES = trace(2, [1, 1])

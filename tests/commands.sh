@@ -83,6 +83,8 @@ files_that_are_not() {
     does 2 'refused 15 0\n' 'this is a folder' bin/yulbravi judge "$table" "$work"
     does 2 'refused 1 0\n' 'this is a folder' bin/yulbravi judge "$work" "$trace"
     does 2 'refused 1 0\n' 'no such file' bin/yulbravi check "$work/none"
+    does 2 'refused 15 0\n' 'no such file' bin/yulbravi judge --quiet "$table" "$work/none"
+    does 2 'refused 8 2\n' 'no such file' bin/yulbravi judge "$cases/class-wrong/table.bin" "$work/none"
     mkdir "$work/no files"
     does 2 'refused 1 0\n' "$work/no files/trace.bin: there is no such file" bin/judge "$work/no files"
     does 4 'refused 3 0\n' "$trace: this is a trace, and a table is wanted here" bin/yulbravi judge "$trace" "$table"
@@ -103,7 +105,10 @@ wrong_uses() {
     does 2 '' 'a verb is wanted' bin/yulbravi
     does 2 '' 'juge is none of the verbs' bin/yulbravi juge
     does 2 '' '--fast is no option' bin/yulbravi judge --fast "$cases/document"
+    does 2 '' 'stands alone' bin/yulbravi --version please
+    does 2 '' 'stands alone' bin/yulbravi --help judge
     does 2 '' '0 names' bin/yulbravi judge
+    does 2 '' 'descriptors 7 to 9' bin/yulbravi judge examples/handshake/table.bin /dev/fd/9
     does 2 '' '3 names' bin/yulbravi judge a b c
     does 2 '' '2 names' bin/yulbravi check a b
     does 2 '' 'an empty name' bin/yulbravi judge ''
@@ -124,7 +129,6 @@ helps() { # WORDS COMMAND..
 
 help_and_version() {
     helps 'Exit status:' bin/yulbravi --help
-    helps 'yulbravi check TABLE' bin/yulbravi help
     helps 'standard input' bin/yulbravi judge --help
     helps 'whether a table is accepted' bin/yulbravi check -h
     helps 'not a pass' bin/judge --help

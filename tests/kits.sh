@@ -186,7 +186,7 @@ kits_empty() {
 
 # What the judge refuses is told, and made; where the verdicts say so, it is not even told.
 kits_refusals() {
-    kits_note table.txt 24 'kind 77 is none of the list in docs/judge.md: the judge refuses this with 5' \
+    kits_note table.txt 24 'kind 77 is none of the list in docs/RULES.md: the judge refuses this with 5' \
         '24s/04 00 00 00  !req/4D 00 00 00  kind 77/; 33,35s/!req/{kind 77}/; 49s/!req/{kind 77}/; 39,41s/!req/kind 77/; 53s/!req/kind 77/'
     kits_note table.txt 46 'kind 48, next!, is strong: the judge refuses this with 6' '46s/20 18 00 00  .*/30 00 00 00  kind 48/; 57s/weak.*/kind 48/'
     kits_note table.txt 36 'row 99 does not stand above row 15: the judge refuses this with 7' \

@@ -37,7 +37,7 @@ fn is_table(bytes: &[u8]) -> bool {
         & ((u16_at(bytes, 10) as u32) == roots)
 }
 
-pub fn note_standing(table: &[u8], trace: &[u8], standing: Standing) {
+pub(crate) fn note_standing(table: &[u8], trace: &[u8], standing: Standing) {
     if let Standing::Refused(refusal) = standing {
         if refusal.number <= LAST_OF_TABLE {
             note_table(table, refusal);
@@ -47,7 +47,7 @@ pub fn note_standing(table: &[u8], trace: &[u8], standing: Standing) {
     }
 }
 
-pub fn note_table(table: &[u8], refusal: Refusal) {
+pub(crate) fn note_table(table: &[u8], refusal: Refusal) {
     if (refusal.number <= LAST_OF_HEADER) & is_trace(table) {
         note(b"table trace\n");
     } else if (refusal.number == NO_HEADER) & (table.len() == 0) {
@@ -86,11 +86,11 @@ fn note_file(length: usize, signals: u16, header: Header) {
     }
 }
 
-// So many bytes are needed, and so many are there; of a file that is longer than the longest trace no more are counted than were read.
+// So many bytes are needed, and so many were read.
 fn note_length(needed: u64, has: u64) {
     if has < needed {
         note_two(b"trace cut", needed, has);
     } else {
-        note_two(b"trace long", needed, has);
+        note_one(b"trace long", needed);
     }
 }

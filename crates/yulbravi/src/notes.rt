@@ -10,7 +10,7 @@ const NOTES: i32 = 9;
 // The status of what was not run: a file that could not be read.
 const NOT_RUN: u32 = 2;
 
-pub fn note(text: &[u8]) {
+pub(crate) fn note(text: &[u8]) {
     io::write_all(NOTES, text);
 }
 
@@ -20,20 +20,20 @@ fn note_number(n: u64) {
 }
 
 // A line that ends in a number, and one that ends in two.
-pub fn note_one(text: &[u8], n: u64) {
+pub(crate) fn note_one(text: &[u8], n: u64) {
     note(text);
     note_number(n);
     note(b"\n");
 }
 
-pub fn note_two(text: &[u8], n: u64, m: u64) {
+pub(crate) fn note_two(text: &[u8], n: u64, m: u64) {
     note(text);
     note_number(n);
     note_one(b"", m);
 }
 
 // The first line: the exit status, unless the lines on standard output could not be written.
-pub fn note_status(written: bool, unread: bool, status: u32) {
+pub(crate) fn note_status(written: bool, unread: bool, status: u32) {
     if !written {
         note(b"unwritten\n");
         return;
@@ -44,7 +44,7 @@ pub fn note_status(written: bool, unread: bool, status: u32) {
 }
 
 // Why a file could not be read, where it could not.
-pub fn note_unread(file: &[u8], error: i32) {
+pub(crate) fn note_unread(file: &[u8], error: i32) {
     if error == 0 {
         return;
     }
