@@ -35,8 +35,14 @@ sources_of() { # NAME
     done | sort | sha256sum
 }
 
-# Whether what was built is of the sources as they are.
+# What is in built/ for each.
+parts_of() { # program|library
+    case $1 in program) echo yulbravi ld-linux-x86-64.so.2 libc.so.6 toolchain ;; library) echo libyulbravi.a ;; esac
+}
+
+# Whether what was built is there, and of the sources as they are.
 current() { # program|library
+    for part in $(parts_of "$1"); do [ -s "$built/$part" ] || return 1; done
     [ -f "$built/$1.sources" ] && [ "$(cat -- "$built/$1.sources")" = "$(sources_of "$(crate_for "$1")")" ]
 }
 
@@ -78,16 +84,27 @@ show_proved() { # LOG TOTAL SECONDS
     shown=$now
 }
 
-# Starts a command at the clone's top, in a session and with a folder of its own for its output and temporary files: a signal that ends this script ends all of
-# that, and leaves no folder. Programs that the prover runs as nobody have to get through the folder.
+# Ends by a signal, with all that was started, and leaves no folder.
+stop_started() { # SIGNAL
+    [ -z "$started" ] || kill -s TERM -- "-$started" 2>/dev/null
+    [ -z "$started" ] || wait "$started"
+    rm -rf -- "$room"
+    trap - "$1"
+    kill -s "$1" $$
+}
+
+# Starts a command at the clone's top, in a session and with a folder of its own for its output and temporary files. Programs that the prover runs as nobody have to get
+# through the folder.
 start() { # COMMAND..
+    started='' room=''
+    for signal in HUP INT TERM; do
+        # shellcheck disable=SC2064
+        trap "stop_started $signal" "$signal"
+    done
+    trap 'stop_started TERM' QUIT
     room=$(mktemp -d) && chmod 711 "$room" && : >"$room/log" || return 2
     (cd -- "$home" && TMPDIR=$room exec setsid "$@") >>"$room/log" 2>&1 &
     started=$!
-    for signal in HUP INT TERM; do
-        # shellcheck disable=SC2064
-        trap "kill -s TERM -- -$started 2>/dev/null; wait $started; rm -rf '$room'; trap - $signal; kill -$signal $$" "$signal"
-    done
 }
 
 # Waits for what was started: its status is `ended`, and its output stays in the folder until `clear_room`.
@@ -97,8 +114,8 @@ await() {
 }
 
 clear_room() {
-    rm -rf "$room"
-    trap - HUP INT TERM
+    rm -rf -- "$room"
+    trap - HUP INT QUIT TERM
 }
 
 # Runs the prover out of sight, and shows how far it is.

@@ -124,6 +124,28 @@ static inline const char *yulbravi_to_do(unsigned number)
     default: return "";
     }
 }
+
+/* What the place of a refusal names: row, property or cycle; nothing where it is 0. */
+static inline const char *yulbravi_place_is(unsigned number)
+{
+    switch (number) {
+    case 5: return "row";
+    case 6: return "row";
+    case 7: return "row";
+    case 8: return "row";
+    case 9: return "property";
+    case 10: return "row";
+    case 11: return "row";
+    case 13: return "cycle";
+    default: return "";
+    }
+}
+
+/* What is told, and what to do, of a trace given as a table and of a table given as a trace. */
+#define YULBRAVI_TRACE_AS_TABLE "this is a trace, and a table is wanted here"
+#define YULBRAVI_TRACE_AS_TABLE_TO_DO "give the table in its place: of two files it is the first, in a folder table.bin"
+#define YULBRAVI_TABLE_AS_TRACE "this is a table, and a trace is wanted here"
+#define YULBRAVI_TABLE_AS_TRACE_TO_DO "give the trace in its place: of two files it is the second, in a folder trace.bin"
 /* end of words: refusals */
 
 /* The most bytes that an accepted table and a trace that is judged have: a host that reads one more sees that a file is too long.
@@ -168,6 +190,18 @@ static inline uint32_t yulbravi_properties(const uint8_t *table)
 static inline uint32_t yulbravi_cycles(const uint8_t *trace)
 {
     return (uint32_t)trace[4] | (uint32_t)trace[5] << 8 | (uint32_t)trace[6] << 16 | (uint32_t)trace[7] << 24;
+}
+
+/* Whether bytes begin as a trace does, and as a table does: to tell files that stand in each other's place. */
+static inline int yulbravi_is_trace(const uint8_t *bytes, size_t length)
+{
+    return length >= 12 && bytes[0] == 1 && bytes[1] == 0 && bytes[8] == 12 && bytes[9] == 0 && bytes[10] == 0 && bytes[11] == 0;
+}
+
+static inline int yulbravi_is_table(const uint8_t *bytes, size_t length)
+{
+    return length >= 16 && bytes[0] == 1 && bytes[1] == 0 && bytes[8] == 16 && bytes[9] == 0 &&
+           ((unsigned)bytes[10] | (unsigned)bytes[11] << 8) == 16 + 4 * ((unsigned)bytes[4] | (unsigned)bytes[5] << 8);
 }
 
 /* words: statuses */

@@ -105,10 +105,11 @@ wrong_uses() {
     does 2 '' 'a verb is wanted' bin/yulbravi
     does 2 '' 'juge is none of the verbs' bin/yulbravi juge
     does 2 '' '--fast is no option' bin/yulbravi judge --fast "$cases/document"
+    does 2 '' '--fast is no option' bin/yulbravi judge "$cases/document" --fast
     does 2 '' 'stands alone' bin/yulbravi --version please
     does 2 '' 'stands alone' bin/yulbravi --help judge
     does 2 '' '0 names' bin/yulbravi judge
-    does 2 '' 'descriptors 7 to 9' bin/yulbravi judge examples/handshake/table.bin /dev/fd/9
+    does 2 '' 'descriptors 5 to 9' bin/yulbravi judge examples/handshake/table.bin /dev/fd/9
     does 2 '' '3 names' bin/yulbravi judge a b c
     does 2 '' '2 names' bin/yulbravi check a b
     does 2 '' 'an empty name' bin/yulbravi judge ''
@@ -117,6 +118,7 @@ wrong_uses() {
     does 2 '' 'there is no such folder' bin/yulbravi judge "$work/none"
     does 2 '' 'is no folder' bin/yulbravi judge "$cases/document/table.bin"
     does 2 '' 'not both' bin/yulbravi judge - -
+    does 2 '' 'not both' bin/yulbravi judge - /dev/stdin
 }
 
 # Writes lines, tells nothing and ends with 0.
@@ -130,6 +132,7 @@ helps() { # WORDS COMMAND..
 help_and_version() {
     helps 'Exit status:' bin/yulbravi --help
     helps 'standard input' bin/yulbravi judge --help
+    helps 'standard input' bin/yulbravi judge "$cases/document" --help
     helps 'whether a table is accepted' bin/yulbravi check -h
     helps 'not a pass' bin/judge --help
     helps "yulbravi $(cat VERSION)" bin/yulbravi --version
@@ -144,6 +147,9 @@ output_that_fails() {
         does 2 '' 'could not be written' sh -c "bin/yulbravi $where >/dev/full"
         does 2 '' 'could not be written' sh -c "bin/yulbravi $where >&-"
     done
+    does 0 '2\n' 'could not be written' sh -c '{ { sleep 0.5; bin/judge examples/handshake/stops-short; echo $? >&3; } | true; } 3>&1'
+    does 0 '3\n' '' sh -c '{ { bin/judge -q examples/handshake/stops-short; echo $? >&3; } | grep -q cycles; } 3>&1'
+    does 0 '3\n' '' sh -c '{ { bin/judge examples/handshake/stops-short 2>&1; echo $? >&3; } | head -n 1 >/dev/null; } 3>&1'
     does 3 '' '' sh -c 'bin/yulbravi judge examples/handshake/stops-short >/dev/null 2>&-'
     does 3 '' '' sh -c 'bin/yulbravi judge examples/handshake/stops-short >/dev/null 2>/dev/full'
 }
@@ -159,8 +165,10 @@ the_readme() {
     cp examples/handshake/table.bin "$work/readme/kit"
     for name in stops-short too-late; do cp "examples/handshake/$name/trace.bin" "$work/readme/recordings/$name.bin"; done
     : >"$work/readme/recordings/a-cut-one.bin"
-    awk '/^    for recording in/ { on = 1 } on { print substr($0, 5) } /^    done$/ { exit }' README.md >"$work/readme/loop"
+    awk '/^    all=0$/ { on = 1 } on { print substr($0, 5) } on && /^    exit/ { exit }' README.md >"$work/readme/loop"
     (cd "$work/readme" && sh -e ./loop) >"$work/wrote" 2>/dev/null
+    [ $? -eq 1 ] && cmp -s examples/handshake/too-late/verdicts.txt "$work/readme/recordings/too-late.bin.verdicts"
+    counts $? 'the loop of the README ends otherwise'
     printf 'recordings/%s\n' 'a-cut-one.bin: refused, not judged' 'stops-short.bin: nothing broken, something pending: not a pass' 'too-late.bin: BROKEN' |
         cmp - "$work/wrote"
     counts $? 'the loop of the README does something else'

@@ -41,6 +41,12 @@ install_full() { # COMMAND..
     "$@" >/dev/full
 }
 
+install_input() { # FILE COMMAND..
+    input=$1
+    shift
+    "$@" <"$input"
+}
+
 install_shut() { # COMMAND..
     "$@" >&-
 }
@@ -133,9 +139,11 @@ install_answers() { # HOST
     dir="$work/all settled"
     install_gives "$1, settled" 0 "$dir/verdicts.txt" emulated "$1" "$dir/table.bin" "$dir/trace.bin"
     install_gives "$1, a table for a trace" 4 "$work/refused 15" emulated "$1" "$dir/table.bin" "$dir/table.bin"
-    install_says "$1, a table for a trace" "$dir/table.bin: "
+    install_says "$1, a table for a trace" "$dir/table.bin: this is a table, and a trace is wanted here"
     install_says "$1, a table for a trace" 'what to do: '
     install_gives "$1, a trace for a table" 4 "$work/refused 3" emulated "$1" "$dir/trace.bin" "$dir/trace.bin"
+    install_says "$1, a trace for a table" 'this is a trace, and a table is wanted here'
+    install_gives "$1, a trace as standard input" 0 "$dir/verdicts.txt" install_input "$dir/trace.bin" emulated "$1" "$dir/table.bin" -
     install_gives "$1, no trace" 2 "$work/refused 15" emulated "$1" "$dir/table.bin" "$work/not there"
     install_says "$1, no trace" "$work/not there: "
     install_gives "$1, no table" 2 "$work/refused 1" emulated "$1" "$work/not there" "$dir/trace.bin"

@@ -52,12 +52,14 @@ standard_input_and_pipes() {
     judges bin/judge "$short/table.bin" "$work/fifo"
     wait $!
     does 2 'refused 15 0\n' 'standard input' sh -c "bin/judge '$short/table.bin' - <&-"
+    does 2 'refused 15 0\n' 'no such file' sh -c "bin/judge '$short/table.bin' /dev/stdin <&-"
+    does 2 '' 'set TMPDIR' env TMPDIR="$work/none" bin/judge "$short"
 }
 
 # A command that waits for its file is ended by a signal, and leaves no process and no file. What a shell puts into the background would ignore INT.
 ended_by() { # SIGNAL STATUS
     mkdir "$work/tmp"
-    env --default-signal=INT TMPDIR="$work/tmp" bin/judge "$short/table.bin" "$work/fifo" >"$work/wrote" 2>"$work/told" &
+    env --default-signal=INT,QUIT TMPDIR="$work/tmp" bin/judge "$short/table.bin" "$work/fifo" >"$work/wrote" 2>"$work/told" &
     waiting=$!
     sleep 2
     kill "-$1" "$waiting"
@@ -122,6 +124,9 @@ built_once() {
     does 2 '' 'the program is not proved: nothing is run' env RT_ENDS=1 RT_TAKES=0 RATTLE_HOME="$toolchain" PATH="$clone/tools:$PATH" "$clone/bin/judge" "$short"
     judges there "$clone/bin/judge" "$short"
     calls 3 'the prover is not called though a source has changed'
+    rm "$clone/built/libc.so.6"
+    judges there "$clone/bin/judge" "$short"
+    calls 4 'what was built is not there, and the prover is not called'
 }
 
 seen_on_a_terminal() {
@@ -133,14 +138,14 @@ seen_on_a_terminal() {
 
 building_ended() {
     printf '\n' >>"$clone/crates/yulbravi/src/main.rt"
-    mkdir "$work/tmp"
-    RT_TAKES=61 RATTLE_HOME=$toolchain TMPDIR=$work/tmp PATH="$clone/tools:$PATH" "$clone/bin/judge" "$short" >/dev/null 2>&1 &
+    mkdir "$work/o'tmp"
+    RT_TAKES=61 RATTLE_HOME=$toolchain TMPDIR="$work/o'tmp" PATH="$clone/tools:$PATH" "$clone/bin/judge" "$short" >/dev/null 2>&1 &
     building=$!
     sleep 2
     told_at=$(date +%s)
     kill -TERM "$building"
     { wait "$building"; } 2>/dev/null
-    [ $? -eq 143 ] && [ $(($(date +%s) - told_at)) -lt 20 ] && ! pgrep -f "$clone/tools/rt" >/dev/null && rmdir "$work/tmp"
+    [ $? -eq 143 ] && [ $(($(date +%s) - told_at)) -lt 20 ] && ! pgrep -f "$clone/tools/rt" >/dev/null && rmdir "$work/o'tmp"
     counts $? 'TERM while it builds does not end it, or leaves something behind'
     judges there "$clone/bin/judge" "$short"
 }
@@ -189,6 +194,7 @@ standard_input_and_pipes
 ended_by TERM 143
 ended_by INT 130
 ended_by HUP 129
+ended_by QUIT 143
 make_clone
 two_at_once
 built_once

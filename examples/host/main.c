@@ -8,7 +8,7 @@
 
 static const char help[] =
     "usage: main TABLE TRACE\n"
-    "Prints the verdict on each property of a table file for the recording in a trace file.\n"
+    "Prints the verdict on each property of a table file for the recording in a trace file; one of them may be -, standard input.\n"
     "Exit status: 0 every property is settled, 1 one is broken, 3 none is broken and one is pending, 4 refused,\n"
     "2 not run: used wrongly, a file that is not there or cannot be read, output that could not be written.\n";
 
@@ -23,7 +23,7 @@ struct input {
 /* Whether the file was read; if not, the reason is told and it counts as empty. */
 static int read_file(struct input *input)
 {
-    FILE *file = fopen(input->name, "rb");
+    FILE *file = strcmp(input->name, "-") == 0 ? stdin : fopen(input->name, "rb");
     if (file != NULL) {
         input->length = fread(input->bytes, 1, input->room, file);
     }
@@ -80,10 +80,28 @@ static int close_output(void)
     return 1;
 }
 
-static void explain(unsigned number, const char *table, const char *trace)
+static void tell(const struct input *input, const char *what, const char *to_do)
 {
-    int of_trace = number == YULBRAVI_SIGNAL_UNDECLARED || number == YULBRAVI_TRACE_WRONG;
-    fprintf(stderr, "%s: %s\nwhat to do: %s\n", of_trace ? trace : table, yulbravi_what(number), yulbravi_to_do(number));
+    fprintf(stderr, "%s: %s\nwhat to do: %s\n", input->name, what, to_do);
+}
+
+/* Which file, why and what to do; of files that stand in each other's place just that. */
+static void explain(uint64_t answer, const struct input *table, const struct input *trace)
+{
+    unsigned number = yulbravi_number(answer);
+    const struct input *input = number == YULBRAVI_SIGNAL_UNDECLARED || number == YULBRAVI_TRACE_WRONG ? trace : table;
+    if (number <= YULBRAVI_TABLE_LENGTH && yulbravi_is_trace(table->bytes, table->length)) {
+        tell(table, YULBRAVI_TRACE_AS_TABLE, YULBRAVI_TRACE_AS_TABLE_TO_DO);
+        return;
+    }
+    if (number == YULBRAVI_TRACE_WRONG && yulbravi_is_table(trace->bytes, trace->length)) {
+        tell(trace, YULBRAVI_TABLE_AS_TRACE, YULBRAVI_TABLE_AS_TRACE_TO_DO);
+        return;
+    }
+    if (yulbravi_place_is(number)[0] != '\0') {
+        fprintf(stderr, "%s: %s %u\n", input->name, yulbravi_place_is(number), yulbravi_place(answer));
+    }
+    tell(input, yulbravi_what(number), yulbravi_to_do(number));
 }
 
 static int judge_files(const char *table_name, const char *trace_name)
@@ -103,7 +121,7 @@ static int judge_files(const char *table_name, const char *trace_name)
     }
     int status = yulbravi_status(answers, count);
     if (status == YULBRAVI_EXIT_REFUSED) {
-        explain(yulbravi_number(answers[0]), table_name, trace_name);
+        explain(answers[0], &table, &trace);
     }
     return status;
 }
@@ -114,7 +132,7 @@ int main(int argc, char **argv)
         fputs(help, stdout);
         return close_output() ? 0 : YULBRAVI_EXIT_NOT_RUN;
     }
-    if (argc != 3 || argv[1][0] == '\0' || argv[2][0] == '\0') {
+    if (argc != 3 || argv[1][0] == '\0' || argv[2][0] == '\0' || (strcmp(argv[1], "-") == 0 && strcmp(argv[2], "-") == 0)) {
         fputs(help, stderr);
         return YULBRAVI_EXIT_NOT_RUN;
     }
