@@ -53,7 +53,7 @@ standard_input_and_pipes() {
     wait $!
     does 2 'refused 15 0\n' 'standard input' sh -c "bin/judge '$short/table.bin' - <&-"
     does 2 'refused 15 0\n' 'no such file' sh -c "bin/judge '$short/table.bin' /dev/stdin <&-"
-    does 2 '' 'set TMPDIR' env TMPDIR="$work/none" bin/judge "$short"
+    judges env TMPDIR="$work/none" bin/judge "$short"
 }
 
 # A command that waits for its file is ended by a signal, and leaves no process and no file. What a shell puts into the background would ignore INT.
