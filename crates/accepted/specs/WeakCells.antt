@@ -7,7 +7,7 @@ use Rattle.std.proofs.Math.Path.{refl, sym, ap}
 use Rattle.std.proofs.Common.{◌∙◌, subst, eqb-true}
 use Rattle.std.proofs.Math.Bool.{true, false}
 use Rattle.psl.specs.Booleans.{Boolean}
-use Rattle.psl.specs.Proof.Marks.Masks.{cells}
+use Rattle.psl.proofs.Marks.Masks.{cells}
 use Rattle.psl.specs.Sequences.{Sequence, cell, then, fuse, alt, star, plus}
 use Rattle.table.specs.Choice.{pick}
 use Rattle.table.specs.Rows.{row_at}

@@ -7,7 +7,7 @@ use mathlib.Core.List.{List}
 use lib.Bits.{bit_or}
 use Rattle.psl.specs.Booleans.{Boolean, bit}
 use Rattle.psl.specs.Tells.{Tells}
-use Rattle.psl.specs.Proof.Model.Nodes.{Node}
+use Rattle.psl.proofs.Model.Nodes.{Node}
 use Rattle.table.specs.Trees.{boolean_at}
 use Rattle.lanes.specs.Rows.{Row, Sound}
 use Rattle.lanes.specs.Expected.{Table}

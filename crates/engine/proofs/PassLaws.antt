@@ -10,10 +10,10 @@ use lib.Dec.{eqb, ltb}
 use borrow.Author.Tests.{eq-eqb, ne_eqb, lt-ltb, ltb-true}
 use Rattle.psl.specs.Booleans.{bit}
 use Rattle.psl.specs.Tells.{Tells, does, doesnt, tells_or, tells_iff, tells_value}
-use Rattle.psl.specs.Proof.Model.Nodes.{Node}
-use Rattle.psl.specs.Proof.Model.Step.{sends, keeps}
-use Rattle.psl.specs.Proof.Model.Pass.{pass}
-use Rattle.psl.specs.Proof.Model.Monitor.{Use, none, merged, ever, apart, use_of}
+use Rattle.psl.proofs.Model.Nodes.{Node}
+use Rattle.psl.proofs.Model.Step.{sends, keeps}
+use Rattle.psl.proofs.Model.Pass.{pass}
+use Rattle.psl.proofs.Model.Monitor.{Use, none, merged, ever, apart, use_of}
 use Rattle.lanes.specs.State.{entered}
 use Rattle.words.specs.Bits.{bit_none}
 use Rattle.words.specs.Sets.{Highest}

@@ -9,7 +9,7 @@ use mathlib.Core.List.{List}
 use lib.Dec.{eqb, ltb}
 use borrow.Author.Tests.{lt-ltb, le-ltb, eq-eqb, ne_eqb}
 use Rattle.psl.specs.Booleans.{bit}
-use Rattle.psl.specs.Proof.Model.Nodes.{Node}
+use Rattle.psl.proofs.Model.Nodes.{Node}
 use Rattle.words.specs.Bits.{fewer_bits}
 use Rattle.words.specs.Sets.{Highest, WithoutBit}
 use Rattle.engine.specs.Reads.{Held, Within}

@@ -9,10 +9,10 @@ use lib.Dec.{T, eqb}
 use borrow.Author.Tests.{eqb-true, ne_eqb}
 use Rattle.psl.specs.Booleans.{Boolean, bit, holds}
 use Rattle.psl.specs.Sequences.{Sequence}
-use Rattle.psl.specs.Proof.Marks.Automaton.{nullable}
-use Rattle.psl.specs.Proof.Model.Nodes.{Node, n_bool, n_weak, n_never, n_both, n_next, n_always, n_if_else, n_implies, n_or, n_until, n_suffix, n_suffix_next}
-use Rattle.psl.specs.Proof.Model.Step.{sends, keeps}
-use Rattle.psl.specs.Proof.Model.Monitor.{use_of}
+use Rattle.psl.proofs.Marks.Automaton.{nullable}
+use Rattle.psl.proofs.Model.Nodes.{Node, n_bool, n_weak, n_never, n_both, n_next, n_always, n_if_else, n_implies, n_or, n_until, n_suffix, n_suffix_next}
+use Rattle.psl.proofs.Model.Step.{sends, keeps}
+use Rattle.psl.proofs.Model.Monitor.{use_of}
 use Rattle.lanes.specs.State.{entered}
 use Rattle.table.specs.Choice.{pick}
 use Rattle.engine.specs.Reads.{kind_of, a_of, b_of, c_of}

@@ -10,7 +10,7 @@ use lib.ListN.{length, get_or, set}
 use lib.Seq.{get_or-set_same, get_or-set_other}
 use Rattle.psl.specs.Booleans.{bit, sample}
 use Rattle.psl.specs.Tells.{tells_eq, tells_dec}
-use Rattle.psl.specs.Proof.Marks.Masks.{cells}
+use Rattle.psl.proofs.Marks.Masks.{cells}
 use Rattle.lanes.specs.ShiftedLanes.{Cap, exact, over}
 use Rattle.lanes.specs.Rows.{Row, Has}
 use Rattle.lanes.specs.Expected.{Table}

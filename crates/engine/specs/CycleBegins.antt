@@ -5,10 +5,10 @@ use Rattle.std.proofs.Math.Decide.{dec_lt}
 use Rattle.std.specs.Prelude.{◌≡◌, refl, Bool, true, false, ◌&&◌, ◌||◌, List, eqb}
 use Rattle.std.proofs.Math.Path.{sym, ap₂, fun_ext}
 use Rattle.psl.specs.Booleans.{bit}
-use Rattle.psl.specs.Proof.Model.Nodes.{Node, n_weak, n_never, n_suffix, n_suffix_next}
-use Rattle.psl.specs.Proof.Model.Step.{keeps}
-use Rattle.psl.specs.Proof.Model.Pass.{pass}
-use Rattle.psl.specs.Proof.Model.Monitor as M
+use Rattle.psl.proofs.Model.Nodes.{Node, n_weak, n_never, n_suffix, n_suffix_next}
+use Rattle.psl.proofs.Model.Step.{keeps}
+use Rattle.psl.proofs.Model.Pass.{pass}
+use Rattle.psl.proofs.Model.Monitor as M
 use Rattle.table.specs.Choice.{pick}
 use Rattle.table.specs.Subset.{Subset}
 use Rattle.table.specs.declared.Counts.{Counts}

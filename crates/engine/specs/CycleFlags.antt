@@ -7,9 +7,9 @@ use Rattle.std.proofs.Math.Bool.{true, false}
 use Rattle.psl.specs.Booleans.{Boolean, bit, holds, sample}
 use Rattle.psl.specs.Sequences.{Sequence}
 use Rattle.psl.specs.Tells.{Tells, any, tells_any, tells_and, tells_or, tells_value, tells_not_value, tells_true, tells_no, tells_iff}
-use Rattle.psl.specs.Proof.Model.Nodes.{Node, n_never}
-use Rattle.psl.specs.Proof.Model.Step.{keeps}
-use Rattle.psl.specs.Proof.Model.Judge.{breaks_at}
+use Rattle.psl.proofs.Model.Nodes.{Node, n_never}
+use Rattle.psl.proofs.Model.Step.{keeps}
+use Rattle.psl.proofs.Model.Judge.{breaks_at}
 use Rattle.table.specs.Choice.{pick}
 use Rattle.table.specs.Trees.{boolean_at}
 use Rattle.table.specs.Subset.{Subset}

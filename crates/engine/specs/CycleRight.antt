@@ -7,7 +7,7 @@ use Rattle.std.proofs.Math.Bool.{false}
 use Rattle.std.proofs.Math.Dec.{T}
 use Rattle.psl.specs.Booleans.{bit, sample}
 use Rattle.psl.specs.Tells.{tells_value, tells_no}
-use Rattle.psl.specs.Proof.Model.Nodes.{Node}
+use Rattle.psl.proofs.Model.Nodes.{Node}
 use Rattle.table.specs.Choice.{pick}
 use Rattle.table.specs.Subset.{Subset}
 use Rattle.table.specs.declared.Counts.{Counts}

@@ -3,7 +3,7 @@ use Rattle.std.specs.Prelude.{ℕ, suc, ◌<◌, ◌^◌, ◌≡◌, Bool, true,
 use Rattle.std.proofs.Common.{arith, ◌∙◌}
 use Rattle.psl.specs.Booleans.{bit}
 use Rattle.psl.specs.Tells.{Tells, any}
-use Rattle.psl.specs.Proof.Model.Nodes.{Node}
+use Rattle.psl.proofs.Model.Nodes.{Node}
 use Rattle.table.specs.Trees.{boolean_at}
 use Rattle.table.specs.Subset.{Subset}
 use Rattle.table.specs.declared.Counts.{Counts}

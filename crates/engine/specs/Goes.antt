@@ -4,7 +4,7 @@ use Rattle.std.proofs.Common.{sym, subst}
 use Rattle.psl.specs.Booleans.{bit}
 use Rattle.psl.specs.Properties.{Property}
 use Rattle.psl.specs.Verdicts.{pending, Right, judged}
-use Rattle.psl.specs.Proof.Model.Nodes.{prop_at}
+use Rattle.psl.proofs.Model.Nodes.{prop_at}
 use Rattle.table.specs.Trees.{property_at}
 use Rattle.table.specs.Subset.{Subset}
 use Rattle.table.specs.declared.Counts.{Counts}

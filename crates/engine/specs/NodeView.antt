@@ -7,7 +7,7 @@ use Rattle.psl.specs.Booleans.{Boolean, constant}
 use Rattle.psl.specs.Sequences.{Sequence}
 use Rattle.psl.specs.Properties.{Property}
 use Rattle.psl.specs.Tells.{tells_dec, tells_eq, tells_lt, tells_or, tells_and, tells_true}
-use Rattle.psl.specs.Proof.Model.Nodes.{Node, n_bool, n_weak, n_never, n_both, n_next, n_always, n_if_else, n_implies, n_or, n_until, n_suffix, n_suffix_next, Falls, build, prop_at, prop_at_is}
+use Rattle.psl.proofs.Model.Nodes.{Node, n_bool, n_weak, n_never, n_both, n_next, n_always, n_if_else, n_implies, n_or, n_until, n_suffix, n_suffix_next, Falls, build, prop_at, prop_at_is}
 use Rattle.table.specs.Choice.{pick, within}
 use Rattle.table.specs.Kinds.{class_of, fields_of, takes_of}
 use Rattle.table.specs.Rows.{row_at}

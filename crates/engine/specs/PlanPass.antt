@@ -5,10 +5,10 @@ use Rattle.std.proofs.Math.Decide.{dec_lt}
 use Rattle.std.proofs.Math.Path.{ap}
 use Rattle.std.specs.Int.Bits.{bit_or}
 use Rattle.psl.specs.Booleans.{Boolean, bit, holds, sample}
-use Rattle.psl.specs.Proof.Marks.Automaton.{nullable}
+use Rattle.psl.proofs.Marks.Automaton.{nullable}
 use Rattle.psl.specs.Tells.{tells_lt, tells_eq, tells_and, tells_value, tells_true, true_tells, tells_no}
-use Rattle.psl.specs.Proof.Model.Nodes.{Node}
-use Rattle.psl.specs.Proof.Model.Monitor as M
+use Rattle.psl.proofs.Model.Nodes.{Node}
+use Rattle.psl.proofs.Model.Monitor as M
 use Rattle.table.specs.Choice.{pick}
 use Rattle.table.specs.Trees.{boolean_at}
 use Rattle.table.specs.Subset.{Subset}

@@ -6,10 +6,10 @@ use Rattle.std.proofs.Math.Bool.{true, and-true, or-false}
 use Rattle.std.proofs.Math.Logic.{⊎_elim}
 use Rattle.std.specs.Int.Bits.{bit_or}
 use Rattle.psl.specs.Booleans.{Boolean, constant, bit, holds, sample}
-use Rattle.psl.specs.Proof.Marks.Automaton.{nullable}
+use Rattle.psl.proofs.Marks.Automaton.{nullable}
 use Rattle.psl.specs.Tells.{Tells, does, doesnt, tells_lt, tells_eq, tells_and, tells_or, tells_not, tells_value, tells_true, true_tells, tells_no}
-use Rattle.psl.specs.Proof.Model.Nodes.{Node, n_bool, n_weak}
-use Rattle.psl.specs.Proof.Model.Monitor as M
+use Rattle.psl.proofs.Model.Nodes.{Node, n_bool, n_weak}
+use Rattle.psl.proofs.Model.Monitor as M
 use Rattle.words.specs.Bits.{bit_or_lem}
 use Rattle.table.specs.Choice.{pick}
 use Rattle.table.specs.Kinds.{class_of, fields_of, takes_of}

@@ -5,8 +5,8 @@ use Rattle.std.proofs.Math.Path.{ap}
 use Rattle.std.proofs.Math.Bool.{true, false}
 use Rattle.psl.specs.Booleans.{sample}
 use Rattle.psl.specs.Tells.{tells_value, tells_no}
-use Rattle.psl.specs.Proof.Model.Nodes.{Node, n_bool, n_weak, n_never, n_both, n_next, n_always, n_if_else, n_implies, n_or, n_until, n_suffix, n_suffix_next}
-use Rattle.psl.specs.Proof.Model.Step.{keeps}
+use Rattle.psl.proofs.Model.Nodes.{Node, n_bool, n_weak, n_never, n_both, n_next, n_always, n_if_else, n_implies, n_or, n_until, n_suffix, n_suffix_next}
+use Rattle.psl.proofs.Model.Step.{keeps}
 use Rattle.lanes.specs.Rows.{Row, r_left, CellAt}
 use Rattle.lanes.specs.Expected.{Table}
 use Rattle.lanes.specs.DownPass.{left_use, give}

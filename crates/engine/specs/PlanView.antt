@@ -7,9 +7,9 @@ use Rattle.std.proofs.Math.Bool.{true}
 use Rattle.psl.specs.Booleans.{Boolean, constant, bit}
 use Rattle.psl.specs.Sequences.{Sequence}
 use Rattle.psl.specs.Properties.{Property, boolean, weak, both, next, if_else, implies, or_else, always, until, suffix, suffix_next, never}
-use Rattle.psl.specs.Proof.Model.Monitor as M
+use Rattle.psl.proofs.Model.Monitor as M
 use Rattle.psl.specs.Tells.{tells_lt, tells_and, tells_true, true_tells}
-use Rattle.psl.specs.Proof.Model.Nodes.{Node, n_bool, n_weak, n_never, n_both, n_next, n_always, n_if_else, n_implies, n_or, n_until, n_suffix, n_suffix_next, Falls, build, prop_at, prop_at_is}
+use Rattle.psl.proofs.Model.Nodes.{Node, n_bool, n_weak, n_never, n_both, n_next, n_always, n_if_else, n_implies, n_or, n_until, n_suffix, n_suffix_next, Falls, build, prop_at, prop_at_is}
 use Rattle.table.specs.Choice.{pick, within}
 use Rattle.table.specs.Kinds.{class_of, fields_of, takes_of, in_f}
 use Rattle.table.specs.Rows.{row_at}

@@ -7,7 +7,7 @@ use Rattle.std.proofs.Math.Path.{refl, ap}
 use Rattle.std.proofs.Math.Bool.{true, false}
 use Rattle.psl.specs.Booleans.{Boolean, constant, bit}
 use Rattle.psl.specs.Tells.{Tells, does, doesnt, tells_value}
-use Rattle.psl.specs.Proof.Marks.Masks.{cells}
+use Rattle.psl.proofs.Marks.Masks.{cells}
 use Rattle.table.specs.Rows.{row_at}
 use Rattle.table.specs.Trees.{boolean_at, sequence_at}
 use Rattle.table.specs.Subset.{Subset, kind_at}

@@ -2,7 +2,7 @@
 // A row is visited where an attempt begins, was held, or its left side ends.
 ghost use Rattle.std.specs.Prelude.{◌≡◌, Bool, ◌&&◌, ℕ};
 ghost use Rattle.psl.specs.Booleans.{bit};
-ghost use Rattle.psl.specs.Proof.Model.Nodes.{Node};
+ghost use Rattle.psl.proofs.Model.Nodes.{Node};
 ghost use Rattle.engine.specs.Reads.{Held};
 ghost use Rattle.engine.specs.Properties.{PropertyRows, Passed, Visits};
 ghost use Rattle.engine.specs.PropertyVisits.{stage_of, begun_at, kept_at, branch_at, guard_at, later_at, lasts_at, lasting_at, plain_at, early_at, matched_at, running_at, owes_at, left_at, visit_at, called, Visitable};

@@ -6,9 +6,9 @@ use Rattle.std.proofs.Math.Bool.{or-false}
 use Rattle.std.proofs.lemmas.Nat.{mod-pow-add}
 use Rattle.psl.specs.Booleans.{bit}
 use Rattle.psl.specs.Sequences.{Sequence, cell, then, fuse, alt, star, plus}
-use Rattle.psl.specs.Proof.Marks.Automaton.{Marks, empty, join, gate}
-use Rattle.psl.specs.Proof.Marks.Masks.{cells, mask, unmask, digit}
-use Rattle.psl.specs.Proof.Marks.Linear.{two}
+use Rattle.psl.proofs.Marks.Automaton.{Marks, empty, join, gate}
+use Rattle.psl.proofs.Marks.Masks.{cells, mask, unmask, digit}
+use Rattle.psl.proofs.Marks.Linear.{two}
 use Rattle.psl.specs.Tells.{tells_eq, tells_no, true_tells}
 use Rattle.lanes.specs.Bits.{tells_same}
 

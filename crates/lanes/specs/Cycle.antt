@@ -8,14 +8,14 @@ use Rattle.std.proofs.Math.Bool.{Bool, false}
 use Rattle.std.proofs.Math.Dec.{eqb}
 use Rattle.psl.specs.Booleans.{Letter, sample}
 use Rattle.psl.specs.Verdicts.{pending, Right, judged}
-use Rattle.psl.specs.Proof.Marks.Automaton.{nullable}
+use Rattle.psl.proofs.Marks.Automaton.{nullable}
 use Rattle.psl.specs.Tells.{Tells, any}
-use Rattle.psl.specs.Proof.Model.Nodes.{Node, Falls, prop_at}
-use Rattle.psl.specs.Proof.Model.Step.{keeps}
-use Rattle.psl.specs.Proof.Model.Pass.{pass}
-use Rattle.psl.specs.Proof.Model.Judge.{breaks_at}
-use Rattle.psl.specs.Proof.Model.Machine.{machine, good}
-use Rattle.psl.specs.Proof.Model.Monitor as M
+use Rattle.psl.proofs.Model.Nodes.{Node, Falls, prop_at}
+use Rattle.psl.proofs.Model.Step.{keeps}
+use Rattle.psl.proofs.Model.Pass.{pass}
+use Rattle.psl.proofs.Model.Judge.{breaks_at}
+use Rattle.psl.proofs.Model.Machine.{machine, good}
+use Rattle.psl.proofs.Model.Monitor as M
 use Rattle.lanes.specs.Families.{moved_to}
 use Rattle.lanes.specs.Rows.{Row, r_bool, r_then, r_fuse, r_alt, r_star, r_plus, r_weak, r_left, r_rest}
 use Rattle.lanes.specs.Expected.{Table, sequence_of, left_has, marks_sit}

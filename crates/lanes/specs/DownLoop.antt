@@ -5,7 +5,7 @@ use Rattle.std.proofs.Common.{arith, sym, ◌∙◌, subst, ⊎_elim}
 use Rattle.std.proofs.Math.Decide.{dec_lt}
 use Rattle.psl.specs.Booleans.{Boolean, Letter}
 use Rattle.psl.specs.Sequences.{Sequence}
-use Rattle.psl.specs.Proof.Marks.Automaton.{Marks}
+use Rattle.psl.proofs.Marks.Automaton.{Marks}
 use Rattle.psl.specs.Tells.{tells_eq, tells_dec}
 use Rattle.lanes.specs.Rows.{Row, r_bool, r_then, r_fuse, r_alt, r_star, r_plus, r_weak, r_left, r_rest, Has, Sits, s_cell, s_then, s_fuse, s_alt, s_star, s_plus, IsSequence, Two, One, two_then, two_fuse, two_alt, one_star, one_plus, one_weak, one_left, Sound, CellAt}
 use Rattle.lanes.specs.UpPass.{Part, RowPart, part_ok}

@@ -5,8 +5,8 @@ use Rattle.std.proofs.Common.{arith, sym, ◌∙◌, subst}
 use Rattle.std.proofs.Math.Decide.{dec_lt}
 use Rattle.psl.specs.Booleans.{Letter}
 use Rattle.psl.specs.Sequences.{Sequence}
-use Rattle.psl.specs.Proof.Marks.Automaton.{Marks}
-use Rattle.psl.specs.Proof.Marks.Masks.{cells}
+use Rattle.psl.proofs.Marks.Automaton.{Marks}
+use Rattle.psl.proofs.Marks.Masks.{cells}
 use Rattle.lanes.specs.OneLane.{next}
 use Rattle.lanes.specs.Rows.{Row, r_bool, r_then, r_fuse, r_alt, r_star, r_plus, r_weak, r_left, r_rest, Has, Sits, s_cell, s_then, s_fuse, s_alt, s_star, s_plus}
 use Rattle.lanes.specs.UpPass.{Part, operand, RowPart, part_ok}

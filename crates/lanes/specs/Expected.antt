@@ -4,8 +4,8 @@ use Rattle.std.specs.Prelude.{ℕ, ◌≤◌, ◌<◌, ◌≡◌, refl, Bool, fa
 use Rattle.std.proofs.Common.{arith}
 use Rattle.std.proofs.Math.Decide.{dec_lt}
 use Rattle.psl.specs.Sequences.{Sequence}
-use Rattle.psl.specs.Proof.Marks.Automaton.{Marks}
-use Rattle.psl.specs.Proof.Marks.Masks.{cells}
+use Rattle.psl.proofs.Marks.Automaton.{Marks}
+use Rattle.psl.proofs.Marks.Masks.{cells}
 use Rattle.lanes.specs.Rows.{Row, r_weak, r_left, r_rest, Has, Sits, read_within, sits_some, Sound}
 
 module _ (row : ℕ → Row) where

@@ -12,11 +12,11 @@ use Rattle.std.specs.Int.Bits.{bit_or, or_lt}
 use Rattle.std.proofs.Math.Pow.{pow-lt}
 use Rattle.psl.specs.Booleans.{Letter, sample, bit}
 use Rattle.psl.specs.Sequences.{Sequence}
-use Rattle.psl.specs.Proof.Marks.Automaton.{gate, first, step}
-use Rattle.psl.specs.Proof.Marks.Masks.{cells, mask, unmask, mask_lt, unmask_mask}
+use Rattle.psl.proofs.Marks.Automaton.{gate, first, step}
+use Rattle.psl.proofs.Marks.Masks.{cells, mask, unmask, mask_lt, unmask_mask}
 use Rattle.psl.specs.Tells.{any, tells_eq, tells_or, tells_and, tells_value, tells_any}
-use Rattle.psl.specs.Proof.Model.Machine.{machine}
-use Rattle.psl.specs.Proof.Model.Monitor.{sets_after}
+use Rattle.psl.proofs.Model.Machine.{machine}
+use Rattle.psl.proofs.Model.Monitor.{sets_after}
 use Rattle.lanes.specs.Bits.{tells_same, bit_on}
 use Rattle.lanes.specs.CellSets.{fill, own, fill_same, unmask_fill, mask_unmask}
 use Rattle.lanes.specs.SetSteps.{below, below_suc, below_zero, below_all, step_set}

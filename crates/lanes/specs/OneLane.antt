@@ -5,8 +5,8 @@ use Rattle.std.proofs.Common.{sym, ◌∙◌, ap, ap₂}
 use Rattle.std.proofs.Math.Bool.{or_comm, and-true, and-false, and_comm}
 use Rattle.psl.specs.Booleans.{Letter, satisfies}
 use Rattle.psl.specs.Sequences.{Sequence, cell, then, fuse, alt, star, plus}
-use Rattle.psl.specs.Proof.Marks.Automaton.{Marks, empty, join, gate, nullable, first, step}
-use Rattle.psl.specs.Proof.Marks.Linear.{join_empty_r, join_empty_l, join4, gate_or, step_join, step_empty, two}
+use Rattle.psl.proofs.Marks.Automaton.{Marks, empty, join, gate, nullable, first, step}
+use Rattle.psl.proofs.Marks.Linear.{join_empty_r, join_empty_l, join4, gate_or, step_join, step_empty, two}
 
 -- the marks that read the letter: the lane's own, and the first cells if the lane enters now
 abbrev pub fed : (r : Sequence) → Marks r → Bool → Marks r

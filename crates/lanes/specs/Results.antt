@@ -6,10 +6,10 @@ use native.Mathlib.Omega.{arith}
 use Rattle.std.proofs.Math.Bool.{false, and-true, and-false}
 use Rattle.psl.specs.Booleans.{Letter}
 use Rattle.psl.specs.Sequences.{Sequence}
-use Rattle.psl.specs.Proof.Marks.Automaton.{Marks, gate, first, step}
-use Rattle.psl.specs.Proof.Marks.Feed.{any}
-use Rattle.psl.specs.Proof.Marks.Masks.{cells}
-use Rattle.psl.specs.Proof.Marks.Linear.{join_empty_r, join_empty_l}
+use Rattle.psl.proofs.Marks.Automaton.{Marks, gate, first, step}
+use Rattle.psl.proofs.Marks.Feed.{any}
+use Rattle.psl.proofs.Marks.Masks.{cells}
+use Rattle.psl.proofs.Marks.Linear.{join_empty_r, join_empty_l}
 use Rattle.psl.specs.Tells.{tells_eq, tells_value, tells_no}
 use Rattle.lanes.specs.Bits.{tells_same}
 use Rattle.lanes.specs.OneLane.{fed, next, ended_is, next_top}

@@ -7,10 +7,10 @@ use Rattle.std.specs.Prelude.{◌≡◌, Bool, true, false, T}
 use Rattle.std.proofs.Math.Path.{refl}
 use Rattle.psl.specs.Booleans.{Boolean, constant}
 use Rattle.psl.specs.Sequences.{Sequence, cell, then, fuse, alt, star, plus}
-use Rattle.psl.specs.Proof.Marks.Automaton.{Marks}
-use Rattle.psl.specs.Proof.Marks.Words.{or_e}
-use Rattle.psl.specs.Proof.Marks.Feed.{any}
-use Rattle.psl.specs.Proof.Marks.Linear.{two}
+use Rattle.psl.proofs.Marks.Automaton.{Marks}
+use Rattle.psl.proofs.Marks.Words.{or_e}
+use Rattle.psl.proofs.Marks.Feed.{any}
+use Rattle.psl.proofs.Marks.Linear.{two}
 
 -- A row as the sequences see it: a Boolean; a sequence of operands; a weak sequence; a left side or never; another property.
 pub data Row : Type 0 where

@@ -8,9 +8,9 @@ use Rattle.std.proofs.Math.Path.{sym, ap, ap₂}
 use Rattle.std.proofs.Math.Bool.{◌||◌, or_comm, and-or_distrib_left}
 use Rattle.psl.specs.Booleans.{Letter}
 use Rattle.psl.specs.Sequences.{Sequence}
-use Rattle.psl.specs.Proof.Marks.Automaton.{empty, join, gate, step}
-use Rattle.psl.specs.Proof.Marks.Masks.{cells}
-use Rattle.psl.specs.Proof.Marks.Linear.{step_join, step_empty}
+use Rattle.psl.proofs.Marks.Automaton.{empty, join, gate, step}
+use Rattle.psl.proofs.Marks.Masks.{cells}
+use Rattle.psl.proofs.Marks.Linear.{step_join, step_empty}
 use Rattle.psl.specs.Tells.{any, Tells, does, doesnt, tells_eq, tells_or, tells_lt}
 use Rattle.lanes.specs.Bits.{tells_same}
 use Rattle.lanes.specs.CellSets.{fill, own, fill_same, fill_or, fill_none, fill_gate}

@@ -4,8 +4,8 @@ use Rattle.std.specs.Prelude.{ℕ, ◌-◌, ◌≤◌, ◌<◌, ◌≡◌, Bool,
 use Rattle.std.proofs.Common.{arith, sym, ◌∙◌, ap}
 use Rattle.psl.specs.Booleans.{Letter}
 use Rattle.psl.specs.Sequences.{Sequence}
-use Rattle.psl.specs.Proof.Marks.Automaton.{empty}
-use Rattle.psl.specs.Proof.Marks.Linear.{step_empty}
+use Rattle.psl.proofs.Marks.Automaton.{empty}
+use Rattle.psl.proofs.Marks.Linear.{step_empty}
 use Rattle.psl.specs.Tells.{Tells, does, doesnt, tells_lt}
 use Rattle.lanes.specs.OneLane.{ends, ends_is}
 use Rattle.lanes.specs.CellSets.{own, own_low, own_shift}

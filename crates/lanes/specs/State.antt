@@ -3,15 +3,15 @@ use Rattle.std.specs.Prelude.{ℕ, ◌<◌, ◌^◌, ◌≡◌, refl, Bool, true
 use Rattle.std.proofs.Common.{arith, sym, ◌∙◌, ap, ap₂, subst}
 use Rattle.psl.specs.Booleans.{sample}
 use Rattle.psl.specs.Sequences.{Sequence, cell, then, fuse, alt, star, plus}
-use Rattle.psl.specs.Proof.Marks.Automaton.{Marks, empty, join, first}
-use Rattle.psl.specs.Proof.Marks.Feed as Feed
-use Rattle.psl.specs.Proof.Marks.Masks.{cells, mask, unmask}
-use Rattle.psl.specs.Proof.Marks.Linear.{two}
+use Rattle.psl.proofs.Marks.Automaton.{Marks, empty, join, first}
+use Rattle.psl.proofs.Marks.Feed as Feed
+use Rattle.psl.proofs.Marks.Masks.{cells, mask, unmask}
+use Rattle.psl.proofs.Marks.Linear.{two}
 use Rattle.psl.specs.Tells.{any}
-use Rattle.psl.specs.Proof.Model.Nodes.{Node, n_weak, n_never, n_suffix, n_suffix_next}
-use Rattle.psl.specs.Proof.Model.Auto.{feed}
-use Rattle.psl.specs.Proof.Model.Machine.{machine, back}
-use Rattle.psl.specs.Proof.Model.Monitor.{use_of, none, merged, ever, apart, Use, State, no_mark, opened}
+use Rattle.psl.proofs.Model.Nodes.{Node, n_weak, n_never, n_suffix, n_suffix_next}
+use Rattle.psl.proofs.Model.Auto.{feed}
+use Rattle.psl.proofs.Model.Machine.{machine, back}
+use Rattle.psl.proofs.Model.Monitor.{use_of, none, merged, ever, apart, Use, State, no_mark, opened}
 use Rattle.lanes.specs.OneLane.{fed}
 use Rattle.lanes.specs.Rows.{Row, r_weak, r_left, Lit, sits_lit}
 use Rattle.lanes.specs.Expected.{sequence_of, Table, left_has, marks_of, marks_sit}

@@ -4,16 +4,16 @@ use Rattle.std.proofs.Math.Path.{sym, fun_ext}
 use Rattle.std.proofs.Common.{◌∙◌, ap, ap₂, subst}
 use Rattle.psl.specs.Booleans.{sample}
 use Rattle.psl.specs.Sequences.{Sequence}
-use Rattle.psl.specs.Proof.Marks.Automaton.{Marks, empty, step}
-use Rattle.psl.specs.Proof.Marks.Feed as Feed
-use Rattle.psl.specs.Proof.Marks.Masks.{cells, mask}
-use Rattle.psl.specs.Proof.Marks.Linear.{step_empty, join_empty_r}
+use Rattle.psl.proofs.Marks.Automaton.{Marks, empty, step}
+use Rattle.psl.proofs.Marks.Feed as Feed
+use Rattle.psl.proofs.Marks.Masks.{cells, mask}
+use Rattle.psl.proofs.Marks.Linear.{step_empty, join_empty_r}
 use Rattle.psl.specs.Tells.{any, tells_any, tells_and, tells_value, tells_eq, tells_true, tells_no, tells_t}
-use Rattle.psl.specs.Proof.Model.Nodes.{Node, n_bool, n_weak, n_never, n_both, n_next, n_always, n_if_else, n_implies, n_or, n_until, n_suffix, n_suffix_next}
-use Rattle.psl.specs.Proof.Model.Step.{keeps}
-use Rattle.psl.specs.Proof.Model.Auto.{feed}
-use Rattle.psl.specs.Proof.Model.Machine.{machine, good, any_empty}
-use Rattle.psl.specs.Proof.Model.Monitor as M
+use Rattle.psl.proofs.Model.Nodes.{Node, n_bool, n_weak, n_never, n_both, n_next, n_always, n_if_else, n_implies, n_or, n_until, n_suffix, n_suffix_next}
+use Rattle.psl.proofs.Model.Step.{keeps}
+use Rattle.psl.proofs.Model.Auto.{feed}
+use Rattle.psl.proofs.Model.Machine.{machine, good, any_empty}
+use Rattle.psl.proofs.Model.Monitor as M
 use Rattle.lanes.specs.OneLane.{fed}
 use Rattle.lanes.specs.Families.{moved_to, sets_same}
 use Rattle.lanes.specs.Rows.{Row, r_weak, r_left, Lit}

@@ -4,14 +4,14 @@ use Rattle.std.proofs.Common.{mod-eq_of_lt, arith, sym, ◌∙◌, ap, subst, in
 use Rattle.std.proofs.Math.Decide.{dec_le}
 use Rattle.std.proofs.Math.Path.{fun_ext}
 use Rattle.psl.specs.Sequences.{Sequence}
-use Rattle.psl.specs.Proof.Marks.Automaton.{empty}
-use Rattle.psl.specs.Proof.Marks.Feed as Feed
-use Rattle.psl.specs.Proof.Marks.Masks.{cells, mask, unmask, mask_empty}
+use Rattle.psl.proofs.Marks.Automaton.{empty}
+use Rattle.psl.proofs.Marks.Feed as Feed
+use Rattle.psl.proofs.Marks.Masks.{cells, mask, unmask, mask_empty}
 use Rattle.psl.specs.Tells.{Tells, any, tells_any, tells_and, tells_or, tells_not, tells_not_value, tells_value, tells_t, tells_true, true_tells, tells_no}
-use Rattle.psl.specs.Proof.Model.Nodes.{Node, n_bool, n_weak, n_never, n_both, n_next, n_always, n_if_else, n_implies, n_or, n_until, n_suffix, n_suffix_next}
-use Rattle.psl.specs.Proof.Model.Judge.{breaks_at}
-use Rattle.psl.specs.Proof.Model.Machine.{machine, back, any_empty}
-use Rattle.psl.specs.Proof.Model.Monitor as M
+use Rattle.psl.proofs.Model.Nodes.{Node, n_bool, n_weak, n_never, n_both, n_next, n_always, n_if_else, n_implies, n_or, n_until, n_suffix, n_suffix_next}
+use Rattle.psl.proofs.Model.Judge.{breaks_at}
+use Rattle.psl.proofs.Model.Machine.{machine, back, any_empty}
+use Rattle.psl.proofs.Model.Monitor as M
 use Rattle.lanes.specs.Bits.{tells_same}
 use Rattle.lanes.specs.CellSets.{mask_unmask}
 use Rattle.lanes.specs.Rows.{Row, r_weak, r_left, r_rest, Lit, sits_lit}

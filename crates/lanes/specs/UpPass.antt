@@ -5,8 +5,8 @@ use Rattle.std.proofs.Common.{zero-add, arith, sym, ◌∙◌, ap₂}
 use Rattle.std.proofs.Math.Bool.{or-false, or-true, and_comm}
 use Rattle.psl.specs.Booleans.{Boolean, Letter, satisfies}
 use Rattle.psl.specs.Sequences.{Sequence, cell, then, fuse, alt, star, plus}
-use Rattle.psl.specs.Proof.Marks.Automaton.{Marks, nullable}
-use Rattle.psl.specs.Proof.Marks.Masks.{cells}
+use Rattle.psl.proofs.Marks.Automaton.{Marks, nullable}
+use Rattle.psl.proofs.Marks.Masks.{cells}
 use Rattle.psl.specs.Tells.{Tells, does, doesnt, tells_eq, tells_no, true_tells, tells_lt}
 use Rattle.lanes.specs.OneLane.{early, ends, early_then, early_fuse}
 use Rattle.lanes.specs.CellSets.{own}

@@ -6,10 +6,10 @@ use Rattle.std.proofs.Math.Decide.{dec_lt}
 use Rattle.std.proofs.Math.Bool.{and-true}
 use Rattle.psl.specs.Booleans.{Boolean, Letter}
 use Rattle.psl.specs.Sequences.{Sequence, cell, then, fuse, alt, star, plus}
-use Rattle.psl.specs.Proof.Marks.Automaton.{Marks, nullable}
-use Rattle.psl.specs.Proof.Marks.Words.{or_l, or_r}
-use Rattle.psl.specs.Proof.Marks.Feed.{any}
-use Rattle.psl.specs.Proof.Marks.Masks.{cells}
+use Rattle.psl.proofs.Marks.Automaton.{Marks, nullable}
+use Rattle.psl.proofs.Marks.Words.{or_l, or_r}
+use Rattle.psl.proofs.Marks.Feed.{any}
+use Rattle.psl.proofs.Marks.Masks.{cells}
 use Rattle.psl.specs.Tells.{tells_no, true_tells, tells_lt}
 use Rattle.lanes.specs.OneLane.{ends, ended, next}
 use Rattle.lanes.specs.CellSets.{fill, own, own_high}

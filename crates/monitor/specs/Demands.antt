@@ -7,7 +7,7 @@ use Rattle.std.proofs.Math.Decide.{dec_lt}
 use Rattle.psl.specs.Properties.{Property, Breaks, Secures}
 use Rattle.psl.specs.Verdicts.{broken, settled, pending, NoStretch, Right}
 use Rattle.psl.specs.Verdicts as Psl
-use Rattle.psl.specs.Laws.{never_both, one_verdict, broken_stays, settled_stays, broken_breaks, settled_unbroken, pending_unbroken, pending_unsecured}
+use Rattle.psl.proofs.Laws.{never_both, one_verdict, broken_stays, settled_stays, broken_breaks, settled_unbroken, pending_unbroken, pending_unsecured}
 use Rattle.table.specs.Reply.{Reply, refused, granted, not_both, granted_one}
 use Rattle.table.specs.Trees.{property_of}
 use Rattle.table.specs.Check.{table_reply}

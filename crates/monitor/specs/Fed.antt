@@ -7,8 +7,8 @@ use Rattle.psl.specs.Tells.{tells_dec}
 use Rattle.psl.specs.Verdicts.{pending, Right, is_pending}
 use Rattle.psl.specs.Verdicts as Psl
 use Rattle.psl.specs.Properties.{Property}
-use Rattle.psl.specs.Laws.{broken_stays, settled_stays}
-use Rattle.psl.specs.Proof.Model.Verdicts.{right_none}
+use Rattle.psl.proofs.Laws.{broken_stays, settled_stays}
+use Rattle.psl.proofs.Model.Verdicts.{right_none}
 use Rattle.table.specs.Reply.{Reply, refused, granted, not_both, granted_one}
 use Rattle.table.specs.Roots.{root_at}
 use Rattle.table.specs.Trees.{property_at, property_of}

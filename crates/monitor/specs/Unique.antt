@@ -4,7 +4,7 @@ use Rattle.std.specs.Prelude.{ℕ, ◌≤◌, ◌<◌, ◌≡◌, refl, List}
 use Rattle.std.proofs.Common.{arith, sym, ◌∙◌, ap, subst}
 use Rattle.std.proofs.Math.Decide.{dec_lt}
 use Rattle.psl.specs.Verdicts as Psl
-use Rattle.psl.specs.Laws.{one_verdict}
+use Rattle.psl.proofs.Laws.{one_verdict}
 use Rattle.table.specs.Reply.{Reply, granted, not_both, granted_one, refused_one}
 use Rattle.table.specs.Check.{table_reply}
 use Rattle.table.specs.declared.Counts.{Counts}

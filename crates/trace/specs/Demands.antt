@@ -5,8 +5,8 @@ use Rattle.std.proofs.Common.{arith, sym, ◌∙◌, ap, subst, length-append}
 use Rattle.std.proofs.Math.Seq.{get_or-append_seam}
 use Rattle.psl.specs.Properties.{Property}
 use Rattle.psl.specs.Verdicts.{Verdict, broken, settled, pending, Right}
-use Rattle.psl.specs.Laws.{one_verdict, broken_stays, settled_stays}
-use Rattle.psl.specs.Proof.Model.Verdicts.{right_none}
+use Rattle.psl.proofs.Laws.{one_verdict, broken_stays, settled_stays}
+use Rattle.psl.proofs.Model.Verdicts.{right_none}
 use Rattle.table.specs.Reply.{Reply, refused, granted, not_both, granted_one}
 use Rattle.table.specs.Trees.{property_of}
 use Rattle.table.specs.Check.{table_reply}

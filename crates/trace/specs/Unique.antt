@@ -3,7 +3,7 @@ use Rattle.std.specs.Prelude.{ℕ, List, ◌≡◌, refl}
 use Rattle.std.proofs.Common.{sym, ◌∙◌, ap, subst}
 use Rattle.std.specs.Borrow.{Bor}
 use Rattle.psl.specs.Verdicts.{Verdict, Right}
-use Rattle.psl.specs.Laws.{one_verdict}
+use Rattle.psl.proofs.Laws.{one_verdict}
 use Rattle.table.specs.Reply.{Reply, refused, granted, not_both, granted_one, refused_one}
 use Rattle.table.specs.Trees.{property_of}
 use Rattle.table.specs.Check.{table_reply}

@@ -6,11 +6,11 @@ use Rattle.std.proofs.Math.Seq.{take-length, slice_empty}
 use Rattle.psl.specs.Booleans.{Letter, sample, t_letter, Word}
 use Rattle.psl.specs.Sequences.{Sequence, Matches}
 use Rattle.psl.specs.Properties.{letters, RunMatches, then_true}
-use Rattle.psl.specs.Proof.Marks.Automaton.{nullable, first, After}
-use Rattle.psl.specs.Proof.Marks.Words.{head_eq, tail_eq, not_snoc, Step, ends, goes}
-use Rattle.psl.specs.Proof.Marks.Reads.{after_nil, opens, opens_back}
-use Rattle.psl.specs.Proof.Attempts.Index.{tops, Open}
-use Rattle.psl.specs.Proof.Decide.Runs.{reads, reads_more}
+use Rattle.psl.proofs.Marks.Automaton.{nullable, first, After}
+use Rattle.psl.proofs.Marks.Words.{head_eq, tail_eq, not_snoc, Step, ends, goes}
+use Rattle.psl.proofs.Marks.Reads.{after_nil, opens, opens_back}
+use Rattle.psl.proofs.Attempts.Index.{tops, Open}
+use Rattle.psl.proofs.Decide.Runs.{reads, reads_more}
 
 -- The empty word matches just where the automaton says so.
 pub empty_nullable : (r : Sequence) → Matches r [] → T (nullable r)

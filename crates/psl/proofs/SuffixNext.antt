@@ -8,11 +8,11 @@ use Rattle.psl.specs.Booleans.{signal, t_letter}
 use Rattle.psl.specs.Sequences.{Sequence, cell, star, Matches}
 use Rattle.psl.specs.Properties.{Property, boolean, suffix, suffix_next, letters, PrefixMatches, Continues, then_true, Breaks, Secures}
 use Rattle.psl.specs.Verdicts.{broken, Right}
-use Rattle.psl.specs.Laws.{empty_breaks_nothing, empty_secures_nothing}
-use Rattle.psl.specs.Proof.Attempts.Same.{continues_open, open_continues}
-use Rattle.psl.specs.Proof.Attempts.OneMore.{one_more, one_less, more_hit, hit_less, top_more, top_less, more_open, hit_open, open_less}
+use Rattle.psl.proofs.Laws.{empty_breaks_nothing, empty_secures_nothing}
+use Rattle.psl.proofs.Attempts.Same.{continues_open, open_continues}
+use Rattle.psl.proofs.Attempts.OneMore.{one_more, one_less, more_hit, hit_less, top_more, top_less, more_open, hit_open, open_less}
 use Rattle.psl.specs.Tells.{any}
-use Rattle.psl.specs.Proof.Decide.Verdicts.{right_of}
+use Rattle.psl.proofs.Decide.Verdicts.{right_of}
 
 -- "r |=> f as {r ; true} |-> f", to break and to secure.
 pub breaks_as_suffix : (r : Sequence) (f : Property) (w : List ℕ) → Breaks (suffix_next r f) w ↔ Breaks (suffix (then_true r) f) w
