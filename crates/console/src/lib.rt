@@ -1,5 +1,8 @@
 // The lines on standard output. Each function that says something answers whether all of it was written; what is written after a write
 // that failed would be the middle of a text, so nothing is.
+
+#![tactic(auto)]
+
 ghost use Rattle.std.specs.Prelude.{◌≤◌, ◌≡◌};
 ghost use Rattle.little.specs.Bytes.{u16_at};
 ghost use Rattle.table.specs.Check.{checked_reply, table_reply};
@@ -12,14 +15,14 @@ use standing::{Standing, with_answer};
 use table::{Checked, Counts, Refusal};
 
 // What `judged` answers: whether all lines were written, and how the properties stand.
-#[derive(Drop)]
+#[derive(Clone, Copy)]
 pub struct Told {
     pub written: bool,
     pub standing: Standing,
 }
 
 // What `checked` answers: whether all lines were written, and the check's answer.
-#[derive(Drop)]
+#[derive(Clone, Copy)]
 pub struct Examined {
     pub written: bool,
     pub answer: Checked,

@@ -18,14 +18,14 @@ use crate::{families, properties, rows, sides, truths, weak_parts, weak_uses};
 
 // What a property expects of later cycles, beside the families of its weak sequences: held rows (next, |=>: owed; always,
 // until, never: running), and the cells of left sides and never, by the row and the field where they stand.
-#[derive(Drop)]
+#[derive(Clone, Copy)]
 pub struct Expected {
     pub held: u64,
     pub live: Live,
 }
 
 // What a sample does: what is expected after it; whether it breaks the property; whether nothing is expected any more.
-#[derive(Drop)]
+#[derive(Clone, Copy)]
 pub struct Outcome {
     pub expected: Expected,
     pub broken: bool,

@@ -1,4 +1,7 @@
 // One cycle of a property: passes over its rows, with no recursion and no look at past cycles.
+
+#![tactic(auto)]
+
 pub mod cycle;
 mod families;
 pub mod plan;

@@ -15,7 +15,7 @@ use table::rows::{kind_at, row_at};
 
 // The Booleans; the rows of left sides and never, and the property rows over them; those of weak sequences, and the weak rows;
 // and the root.
-#[derive(Drop)]
+#[derive(Clone, Copy)]
 pub struct Plan {
     pub booleans: u64,
     pub sides: u64,

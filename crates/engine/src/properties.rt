@@ -10,7 +10,7 @@ ghost use Rattle.engine.specs.PropertyVisits.{stage_of, begun_at, kept_at, branc
 use crate::rows;
 
 // The rows over a left side that ends on this letter: by an attempt under way, and by one that begins now. And those over one that can be empty.
-#[derive(Drop)]
+#[derive(Clone, Copy)]
 pub struct Hits {
     pub ends: u64,
     pub early: u64,
@@ -18,14 +18,14 @@ pub struct Hits {
 }
 
 // What is known on this letter: the rows held before, the Booleans that hold, the left sides that end.
-#[derive(Drop)]
+#[derive(Clone, Copy)]
 pub struct Letter {
     pub was: u64,
     pub truth: u64,
     pub hits: Hits,
 }
 
-#[derive(Drop)]
+#[derive(Clone, Copy)]
 pub struct Pass {
     pub begin: u64,
     pub held: u64,

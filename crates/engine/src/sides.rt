@@ -15,7 +15,7 @@ use crate::properties::Hits;
 use crate::rows;
 
 // The cells expected by left sides and never, by the row and the field where they stand.
-#[derive(Drop)]
+#[derive(Clone, Copy)]
 pub struct Live {
     pub a: u64,
     pub b: u64,

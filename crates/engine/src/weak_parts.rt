@@ -9,7 +9,7 @@ use crate::rows;
 
 // What a part does on this letter: bits 0 to 5 its own cells from the left whose reading ends it, 64 entered now it ends now,
 // 128 it can be empty; and how many cells it has, 7 where more.
-#[derive(Drop)]
+#[derive(Clone, Copy)]
 pub struct Part {
     pub act: u8,
     pub count: u8,

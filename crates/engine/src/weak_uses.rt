@@ -8,7 +8,7 @@ use crate::rows;
 use crate::weak_parts::{Part, only_if, part_at, shifted};
 
 // How a part is used: the place of its first cell (8 times the number of its weak sequence, and the lane); the lanes that enter it now, and next.
-#[derive(Drop)]
+#[derive(Clone, Copy)]
 pub struct Use {
     pub place: u8,
     pub into: u8,

@@ -1,4 +1,7 @@
 // Files: read whole into a room that is one byte longer than the longest right file, so that a longer one is seen to be one.
+
+#![tactic(auto)]
+
 ghost use Rattle.std.specs.Prelude.{◌≡◌, length};
 ghost use Rattle.io.specs.Counts.{IsPrefixLen};
 
@@ -18,7 +21,7 @@ pub fn trace_room() -> [u8; Header::BYTES + 1]
 }
 
 // How many bytes of a file are at the start of the room, and 0, or why it could not be read: errno's number, and no bytes then.
-#[derive(Drop)]
+#[derive(Clone, Copy)]
 pub struct Got {
     pub bytes: usize,
     pub error: i32,

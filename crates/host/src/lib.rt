@@ -1,4 +1,7 @@
 // For a host in C: numbers and byte slices in, one number out.
+
+#![tactic(auto)]
+
 ghost use Rattle.std.specs.Prelude.{◌≡◌};
 ghost use Rattle.table.specs.Check.{checked_reply, table_reply};
 ghost use Rattle.monitor.specs.Follows.{verdict_of, answer_reply};
@@ -8,7 +11,7 @@ use monitor::{Answer, Verdict};
 use table::{Checked, Refusal};
 
 // The parts of an answer's number.
-#[derive(Drop)]
+#[derive(Clone, Copy)]
 pub struct Packed {}
 
 impl Packed {

@@ -1,4 +1,7 @@
 // The program `judge`: reads table.bin and trace.bin where it is run, and writes the verdict of each property.
+
+#![tactic(auto)]
+
 use console::judged;
 use files::{read_file, table_room, trace_room};
 

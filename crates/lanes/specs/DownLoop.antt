@@ -97,6 +97,10 @@ module _ (row : ℕ → Row) (live : ℕ → Bool → Bool) (c : Letter) (part :
       lands_seq d (r_alt a b) n f v w s h = h
       lands_seq d (r_star a) n f v w s h = h
       lands_seq d (r_plus a) n f v w s h = h
+      lands_seq d (r_bool _) n f v w s h = elim s [ ]
+      lands_seq d (r_weak _) n f v w s h = elim s [ ]
+      lands_seq d (r_left _) n f v w s h = elim s [ ]
+      lands_seq d r_rest n f v w s h = elim s [ ]
 
       module _ (n : ℕ) (d e : Work) (h : Sofar (suc n) d) (g : Visits n d e) where
         -- the use of row n, if it is a sequence, came from a row above

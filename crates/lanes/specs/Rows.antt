@@ -150,6 +150,9 @@ module _ (row : ℕ → Row) where
     some_by k n f v (r_alt a b) e q h = let s = h false a refl in let t = h true b refl in ((s.0, t.0), s_alt e s.1 t.1)
     some_by k n f v (r_star a) e q h = let s = h false a refl in (s.0, s_star e s.1)
     some_by k n f v (r_plus a) e q h = let s = h false a refl in (s.0, s_plus e s.1)
+    some_by k n f v (r_weak _) e q h = elim q [ ]
+    some_by k n f v (r_left _) e q h = elim q [ ]
+    some_by k n f v r_rest e q h = elim q [ ]
 
     -- an operand reads as its row does, with fuel enough
     pub sits_some : (k n : ℕ) (f : Bool) (v : ℕ) → v < k → IsOperand (row v) → Sitting n f v (read_within k v)

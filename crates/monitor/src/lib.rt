@@ -1,4 +1,7 @@
 // The monitor of a property: opened on an accepted table, stepped once for each sample.
+
+#![tactic(auto)]
+
 ghost use Rattle.std.specs.Prelude.{◌≡◌, List, ℕ, ◌<◌, length};
 ghost use Rattle.psl.specs.Verdicts.{pending, Right, judged};
 ghost use Rattle.table.specs.Reply.{refused, granted};
@@ -19,7 +22,7 @@ pub use entry::advance;
 use table::{Checked, Counts, Refusal};
 
 // A verdict: broken or settled with its cycle, or pending with the cycles read.
-#[derive(Drop)]
+#[derive(Clone, Copy)]
 pub enum Verdict {
     Broken(u32),
     Settled(u32),
@@ -27,14 +30,14 @@ pub enum Verdict {
 }
 
 // How a property stands after some cycles, beside its families.
-#[derive(Drop)]
+#[derive(Clone, Copy)]
 pub struct Stand {
     pub verdict: Verdict,
     pub expected: Expected,
 }
 
 // The families are those of the property's weak sequences, from the highest row.
-#[derive(Drop)]
+#[derive(Clone, Copy)]
 pub struct Monitor {
     pub plan: Plan,
     pub stand: Stand,
@@ -67,20 +70,20 @@ impl Monitor {
 }
 
 // The answer of a step: a refusal, or the verdict.
-#[derive(Drop)]
+#[derive(Clone, Copy)]
 pub enum Answer {
     Refused(Refusal),
     Given(Verdict),
 }
 
-#[derive(Drop)]
+#[derive(Clone, Copy)]
 pub struct Stepped {
     pub answer: Answer,
     pub monitor: Monitor,
 }
 
 // The answer of opening is that of the check, with one refusal more; the monitor stands beside it.
-#[derive(Drop)]
+#[derive(Clone, Copy)]
 pub struct Opened {
     pub answer: Checked,
     pub monitor: Monitor,
@@ -174,7 +177,7 @@ fn turn(
 }
 
 // The answer to a sample, and how the property stands then.
-#[derive(Drop)]
+#[derive(Clone, Copy)]
 pub struct Told {
     pub answer: Answer,
     pub stand: Stand,
@@ -201,7 +204,7 @@ fn advanced(
 }
 
 // Whether a property goes on, and after how many cycles.
-#[derive(Drop)]
+#[derive(Clone, Copy)]
 enum Going {
     Over,
     After(u32),

@@ -1,4 +1,7 @@
 // How all properties of a table stand together: refused before all, then broken, then pending; settled only if all are.
+
+#![tactic(auto)]
+
 ghost use Rattle.std.specs.Prelude.{◌≡◌};
 ghost use Rattle.standing.specs.Standing.{status_of};
 ghost use Rattle.standing.specs.Adding.{with_broken, with_pending, with_verdict, with_answer};
@@ -6,7 +9,7 @@ ghost use Rattle.standing.specs.Adding.{with_broken, with_pending, with_verdict,
 use monitor::{Answer, Verdict};
 use table::Refusal;
 
-#[derive(Drop)]
+#[derive(Clone, Copy)]
 pub enum Standing {
     Settled,
     Broken,

@@ -1,4 +1,7 @@
 // Runs the table check on the places where implementations go wrong, and on the limits of document 01.
+
+#![tactic(auto)]
+
 use libc::STDOUT_FILENO;
 use table::Checked;
 
@@ -6,7 +9,7 @@ mod cases;
 mod tables;
 
 // Cases, and how many went wrong.
-#[derive(Drop)]
+#[derive(Clone, Copy)]
 pub struct Tally {
     cases: u16,
     wrong: u16,

@@ -4,7 +4,7 @@ ghost use Rattle.trace.specs.Refusals.{header_of, header_right};
 
 use little::{u16_at, u32_at};
 
-#[derive(Drop)]
+#[derive(Clone, Copy)]
 pub struct Header {
     pub version: u16,
     pub signals: u16,

@@ -1,5 +1,8 @@
 // Trace bytes: for any bytes whatsoever, `check_trace` says whether they are a right trace of a table's signals, and else why not and where;
 // and a reader over them that gives one sample after the other.
+
+#![tactic(auto)]
+
 pub mod header;
 pub mod judging;
 pub mod reader;

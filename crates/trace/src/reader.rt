@@ -4,21 +4,21 @@ ghost use Rattle.trace.specs.Reader.{reading_at, gives, moved};
 
 use crate::samples::{cycles_of, sample_at};
 
-#[derive(Drop)]
+#[derive(Clone, Copy)]
 pub struct TraceReader<'a> {
     pub bytes: &'a [u8],
     pub at: u32,
 }
 
 // The next sample, or that there is none.
-#[derive(Drop)]
+#[derive(Clone, Copy)]
 pub enum Next {
     Sample(u32),
     End,
 }
 
 // What a reader gives, and the place where it stands then.
-#[derive(Drop)]
+#[derive(Clone, Copy)]
 pub struct Reading {
     pub next: Next,
     pub at: u32,

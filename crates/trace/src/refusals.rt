@@ -7,7 +7,7 @@ use crate::samples::sample_at;
 use table::Refusal;
 
 // The answer: the cycles of a right trace, whose samples stay in the lent bytes, or the refusal.
-#[derive(Drop)]
+#[derive(Clone, Copy)]
 pub enum TraceChecked {
     Accepted(u32),
     Refused(Refusal),

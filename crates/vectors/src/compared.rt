@@ -7,7 +7,7 @@ use libc::STDOUT_FILENO;
 use monitor::Monitor;
 
 // The records so far and what was compared of them; of the per-cycle entry, by every step; the last monitor that was opened; whether there are no more.
-#[derive(Drop)]
+#[derive(Clone, Copy)]
 pub(crate) struct Compared {
     records: u64,
     checks: Tally,

@@ -5,7 +5,7 @@ use host::answer_number;
 use monitor::{Monitor, Stepped};
 
 // What a step answered and left; what was compared of the entry so far.
-#[derive(Drop)]
+#[derive(Clone, Copy)]
 pub(crate) struct Step {
     pub(crate) answer: u64,
     pub(crate) monitor: Monitor,

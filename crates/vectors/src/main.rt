@@ -1,5 +1,8 @@
 // Compares answers with a file of cases on standard input: records as the second program writes them, and what it says of
 // them there. The file `stdin` beside this folder is what `second fixed` writes; the sixteen small runs of document 01 come first.
+
+#![tactic(auto)]
+
 use compared::Compared;
 use reading::{Head, Next};
 

@@ -6,7 +6,7 @@ use libc::STDIN_FILENO;
 use little::u32_at;
 
 // What a record says before its bytes.
-#[derive(Drop)]
+#[derive(Clone, Copy)]
 pub(crate) struct Head {
     pub(crate) kind: u8,
     pub(crate) property: u32,
@@ -16,7 +16,7 @@ pub(crate) struct Head {
 }
 
 // The head of the next record; or that the input ends, where a record can, or elsewhere.
-#[derive(Drop)]
+#[derive(Clone, Copy)]
 pub(crate) enum Next {
     Record(Head),
     End,

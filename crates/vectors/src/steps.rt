@@ -9,7 +9,7 @@ use table::Checked;
 use trace::samples::{cycles_of, sample_at};
 
 // A monitor; what was compared of its answers, and of those of the per-cycle entry.
-#[derive(Drop)]
+#[derive(Clone, Copy)]
 pub(crate) struct Watch {
     pub(crate) monitor: Monitor,
     pub(crate) tally: Tally,

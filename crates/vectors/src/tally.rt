@@ -2,7 +2,7 @@
 use libc::STDOUT_FILENO;
 
 // What was compared so far of one kind of record.
-#[derive(Drop)]
+#[derive(Clone, Copy)]
 pub(crate) struct Tally {
     compared: u64,
     differ: u64,

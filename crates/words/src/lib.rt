@@ -1,4 +1,7 @@
 // Sets of numbers below 64, each in one word: k is in the set where bit k is set. The index of one bit counts modulo 64, so no function asks anything.
+
+#![tactic(auto)]
+
 ghost use Rattle.std.specs.Prelude.{◌≡◌, ◌%◌};
 ghost use Rattle.psl.specs.Booleans.{bit};
 ghost use Rattle.psl.specs.Tells.{Tells};
