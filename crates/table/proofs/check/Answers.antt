@@ -1,0 +1,20 @@
+use Rattle.std.proofs.Common.{ap, sym, ◌∙◌}
+use Rattle.table.specs.Check.{checked_reply, check_of, answer}
+use Rattle.table.specs.Laws.Rows.{head_refused, head_accepted}
+use Rattle.table.specs.Laws.Headers.{header_so}
+use Rattle.table.proofs.check.Goals as goal
+
+pub returns-in_default : goal.returns-in_default
+unfolding check_of
+returns-in_default c = ap checked_reply (c.header-head.ensures ∙ head_refused _ (sym c.header-head.ensures ∙ c.enum_told-1.given.1))
+
+pub rows_onward-found-requires : goal.rows_onward-found-requires
+rows_onward-found-requires c = record { nodes = (header_so _ _ (sym c.header-head.ensures ∙ c.head-1.given.1)).nodes_range.1 }
+
+pub returns-in-At : goal.returns-in-At
+unfolding check_of
+returns-in-At c = ap checked_reply (head_accepted _ (sym c.header-head.ensures ∙ c.head-1.given.1) (ap (answer c.head-1.given.0.0) (sym c.found-1.given.1 ∙ c.rows_onward-found.ensures)))
+
+pub returns-in-Clear : goal.returns-in-Clear
+unfolding check_of
+returns-in-Clear c = ap checked_reply (head_accepted _ (sym c.header-head.ensures ∙ c.head-1.given.1) (ap (answer c.head-1.given.0.0) (sym c.enum_told-in-Clear-1.given.1 ∙ c.rows_onward-found.ensures)))

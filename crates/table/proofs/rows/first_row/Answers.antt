@@ -1,0 +1,19 @@
+use Rattle.std.proofs.Common.{arith, rules, sym, ◌-◌, ◌∙◌}
+use Rattle.table.specs.Rows.{row_rule}
+use Rattle.table.specs.First.{first_refusal}
+use Rattle.table.specs.Laws.Runs.{left, first_start, first_next, first_here, first_end}
+use Rattle.table.specs.declared.Found.TheVariants.{Clear, At}
+use Rattle.table.proofs.rows.first_row.Goals as goal
+
+pub loop-i-init : goal.loop-i-init
+loop-i-init c = (search rules, first_start _ _)
+
+pub returns-then-number-ne0 : goal.returns-then-number-ne0
+returns-then-number-ne0 c = let e = c.row_rule-number.ensures in
+    (λ i. At (record { number = e i; place = c.loop-i.i })) ∙ sym (first_here _ _ _ c.loop-i-test.true (λ q. c.if-number-ne0.true (e ∙ q))) ∙ c.loop-i.invariant.1
+
+pub loop-i-preserved : goal.loop-i-preserved
+loop-i-preserved c = (omega arith, sym (first_next _ _ _ c.loop-i-test.true (sym c.row_rule-number.ensures ∙ c.if-number-ne0.false)) ∙ c.loop-i.invariant.1)
+
+pub returns : goal.returns
+returns c = sym (first_end _ _ _ c.loop-i-test.false) ∙ c.loop-i.invariant.1
