@@ -1,5 +1,5 @@
-use Rattle.std.proofs.Common.{arith, inl, inr, ⊎_elim}
-use Rattle.table.specs.Laws.Spans.{above}
+use Rattle.std.proofs.Common.{arith}
+use Rattle.std.proofs.Math.Decide.{dec_lt}
 use Rattle.table.specs.Choice.{pick}
 use Rattle.table.specs.Kinds.{takes_of}
 use Rattle.table.specs.Laws.Spans.{takes_at}
@@ -16,7 +16,7 @@ pub returns-in-33 : goal.returns-in-33
 returns-in-33 c = takes_at 33 1 FF (unfold takes_of pick in tt) _ (omega arith) (omega arith)
 
 pub returns-in-34 : goal.returns-in-34
-returns-in-34 c = ⊎_elim (λ e. takes_at 34 1 F (unfold takes_of pick in tt) _ (omega arith) (omega arith)) (λ e. takes_at 38 1 F (unfold takes_of pick in tt) _ (omega arith) (omega arith)) c.in_default-1.keys5
+returns-in-34 c = elim (dec_lt c.args.kind 35) [ yes l ↦ takes_at 34 1 F (unfold takes_of pick in tt) _ (omega arith) (omega arith) | no l ↦ takes_at 38 1 F (unfold takes_of pick in tt) _ (omega arith) (omega arith) ]
 
 pub returns-in-35 : goal.returns-in-35
 returns-in-35 c = takes_at 35 1 BFF (unfold takes_of pick in tt) _ (omega arith) (omega arith)
@@ -25,21 +25,16 @@ pub returns-in-36 : goal.returns-in-36
 returns-in-36 c = takes_at 36 1 BF (unfold takes_of pick in tt) _ (omega arith) (omega arith)
 
 pub returns-in-37 : goal.returns-in-37
-returns-in-37 c = ⊎_elim (λ e. takes_at 37 1 FB (unfold takes_of pick in tt) _ (omega arith) (omega arith)) (λ e. takes_at 39 1 FB (unfold takes_of pick in tt) _ (omega arith) (omega arith)) c.in_default-1.keys8
+returns-in-37 c = elim (dec_lt c.args.kind 38) [ yes l ↦ takes_at 37 1 FB (unfold takes_of pick in tt) _ (omega arith) (omega arith) | no l ↦ takes_at 39 1 FB (unfold takes_of pick in tt) _ (omega arith) (omega arith) ]
 
 pub returns-in-5-to-6 : goal.returns-in-5-to-6
-returns-in-5-to-6 c = let r = c.in_default-1.rest in
-    takes_at 5 2 BB (unfold takes_of pick in tt) _ (above 4 (above 3 c.if-kind-lt3.false r.0.0.0.0.0.0.0.1) r.0.0.0.0.0.0.1) (omega arith)
+returns-in-5-to-6 c = takes_at 5 2 BB (unfold takes_of pick in tt) _ (omega arith) (omega arith)
 
 pub returns-in-16-to-18 : goal.returns-in-16-to-18
 returns-in-16-to-18 c = takes_at 16 3 QQ (unfold takes_of pick in tt) _ (omega arith) (omega arith)
 
 pub returns-in-40-to-41 : goal.returns-in-40-to-41
-returns-in-40-to-41 c = let r = c.in_default-1.rest in
-    takes_at 40 2 QF (unfold takes_of pick in tt) _
-    (above 39 (above 38 (above 37 (above 36 (above 35 (above 34 (above 33 (above 32 c.if-kind-lt32.false (λ e. r.0.0.0.0.0.1 (inl e))) r.0.0.0.0.1)
-    (λ e. r.0.0.0.1 (inl e))) r.0.0.1) r.0.1) (λ e. r.1 (inl e))) (λ e. r.0.0.0.1 (inr e))) (λ e. r.1 (inr e)))
-    (omega arith)
+returns-in-40-to-41 c = takes_at 40 2 QF (unfold takes_of pick in tt) _ (grind arith) (omega arith)
 
 pub returns-in_default : goal.returns-in_default
 returns-in_default c = takes_at 0 3 None (unfold takes_of pick in tt) _ (omega arith) (omega arith)
@@ -51,11 +46,10 @@ pub returns-in_default-3 : goal.returns-in_default-3
 returns-in_default-3 c = takes_at 21 11 None (unfold takes_of pick in tt) _ (omega arith) (omega arith)
 
 pub returns-in_default-4 : goal.returns-in_default-4
-returns-in_default-4 c = let r = c.in_default-1.rest in
-    takes_at 43 213 None (unfold takes_of pick in tt) _ (above 42 c.if-kind-lt42.false (λ e. r.0.0.0.0.0.1 (inr e))) (omega arith)
+returns-in_default-4 c = takes_at 43 213 None (unfold takes_of pick in tt) _ (grind arith) (omega arith)
 
 pub returns-in-19-to-20 : goal.returns-in-19-to-20
-returns-in-19-to-20 c = ⊎_elim (λ e. takes_at 32 1 Q (unfold takes_of pick in tt) _ (omega arith) (omega arith)) (λ e. takes_at 42 1 Q (unfold takes_of pick in tt) _ (omega arith) (omega arith)) c.in_default-1.keys3
+returns-in-19-to-20 c = elim (dec_lt c.args.kind 33) [ yes l ↦ takes_at 32 1 Q (unfold takes_of pick in tt) _ (omega arith) (omega arith) | no l ↦ takes_at 42 1 Q (unfold takes_of pick in tt) _ (omega arith) (omega arith) ]
 
 pub returns-in-19-to-20-2 : goal.returns-in-19-to-20-2
 returns-in-19-to-20-2 c = takes_at 19 2 Q (unfold takes_of pick in tt) _ (omega arith) (omega arith)
