@@ -14,9 +14,9 @@ use Rattle.table.specs.First.{sum_to}
 use Rattle.table.specs.Trees.{boolean_at}
 use Rattle.table.specs.Uses.{one_if, use_in, uses_in_row, root_use, uses_of}
 use Rattle.table.specs.Subset.{Field, field_a, field_b, field_c, holds_at, value_at, kind_at, InSubset, IsOperand, Subset}
-use Rattle.table.specs.Laws.Choices.{picked, passed, above_no}
-use Rattle.table.specs.Laws.Numbers.{same_test}
-use Rattle.table.specs.Laws.Sums.{sum_one, sum_two, sum_some, sum_none}
+use Rattle.table.proofs.Laws.Choices.{picked, passed, above_no}
+use Rattle.table.proofs.Laws.Numbers.{same_test}
+use Rattle.table.proofs.Laws.Sums.{sum_one, sum_two, sum_some, sum_none}
 use Rattle.lanes.specs.Rows.{Row, r_rest, Has, IsSequence, IsOperand as StandsAsOperand, Sound}
 use Rattle.accepted.specs.Rows.{shape_of, made, row_of}
 use Rattle.accepted.specs.Shapes.{has_a, has_b, seq_s, Field as ShapeField, has_field, field_has, seq_shape, q_shape, is_q, shape_a, shape_b, shape_c, shape_seq, shape_q, shape_high}
@@ -36,6 +36,10 @@ unknown k l =
 -- a field that holds a sequence
 q_operand : (h : Holds) → T (is_q h) → IsOperand h
 q_operand Q t = tt
+q_operand Nothing t = elim t [ ]
+q_operand Signal t = elim t [ ]
+q_operand B t = elim t [ ]
+q_operand F t = elim t [ ]
 
 q_class : (h : Holds) (k : Class) → T (is_q h) → T (class_ok h k) → class_ok Q k ≡ true
 q_class Q Boolean t e = refl
@@ -43,9 +47,17 @@ q_class Q Sequence t e = refl
 q_class Q Property t e = absurd e
 q_class Q Strong t e = absurd e
 q_class Q Unknown t e = absurd e
+q_class Nothing k t e = elim t [ ]
+q_class Signal k t e = elim t [ ]
+q_class B k t e = elim t [ ]
+q_class F k t e = elim t [ ]
 
 q_use : (h : Holds) (v : ℕ) → T (is_q h) → use_in h v v ≡ 1
 q_use Q v t = picked (eqb v v) 1 0 (eq-eqb v v refl)
+q_use Nothing v t = elim t [ ]
+q_use Signal v t = elim t [ ]
+q_use B v t = elim t [ ]
+q_use F v t = elim t [ ]
 
 no_b : (k : Class) → is_sequence k ≡ true → T (class_ok B k) → ⊥
 no_b Boolean p q = subst T (sym p) tt

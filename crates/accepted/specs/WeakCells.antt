@@ -14,15 +14,15 @@ use Rattle.table.specs.Rows.{row_at}
 use Rattle.table.specs.Trees.{boolean_at, sequence_at}
 use Rattle.table.specs.Cells.{cells_in, cells_at}
 use Rattle.table.specs.Subset.{kind_at, Subset}
-use Rattle.table.specs.Laws.Numbers.{same_test}
-use Rattle.table.specs.Laws.Runs.{clash}
-use Rattle.table.specs.Laws.Spans.{every}
+use Rattle.table.proofs.Laws.Numbers.{same_test}
+use Rattle.table.proofs.Laws.Runs.{clash}
+use Rattle.table.proofs.Laws.Spans.{every}
 use Rattle.lanes.specs.Rows.{Row, r_bool, r_weak, Has, IsOperand, build, read_within}
 use Rattle.lanes.specs.Expected.{Table}
 use Rattle.accepted.specs.Rows.{Shape, h_bool, h_then, h_fuse, h_alt, h_star, h_plus, h_weak, h_left, h_rest, shape_of, made, row_of}
 use Rattle.accepted.specs.Shapes.{implied, by_implied}
 use Rattle.accepted.specs.Sequences.{row_in, row_low, known, past_rows, sound}
-use Rattle.table.specs.Facts.Trees as R
+use Rattle.table.proofs.Facts.Trees as R
 use Rattle.table.specs.declared.Counts.{Counts}
 
 abbrev bool_or_rest : Shape → Bool
@@ -87,11 +87,24 @@ module _ (a b : ℕ) (x : Boolean) where
   low_row : (h : Shape) → T (bool_or_rest h) → IsOperand (made h a b x) → made h a b x ≡ r_bool x
   low_row h_bool t q = refl
   low_row h_rest t q = absurd q
+  low_row h_then t q = elim t [ ]
+  low_row h_fuse t q = elim t [ ]
+  low_row h_alt t q = elim t [ ]
+  low_row h_star t q = elim t [ ]
+  low_row h_plus t q = elim t [ ]
+  low_row h_weak t q = elim t [ ]
+  low_row h_left t q = elim t [ ]
 
   high_row : (h : Shape) → T (no_sequence h) → IsOperand (made h a b x) → ⊥
   high_row h_weak t q = q
   high_row h_left t q = q
   high_row h_rest t q = q
+  high_row h_bool t q = elim t [ ]
+  high_row h_then t q = elim t [ ]
+  high_row h_fuse t q = elim t [ ]
+  high_row h_alt t q = elim t [ ]
+  high_row h_star t q = elim t [ ]
+  high_row h_plus t q = elim t [ ]
 
   weak_row : (h : Shape) (v : ℕ) → made h a b x ≡ r_weak v → (is_weak_lem h ≡ true) × (v ≡ a)
   weak_row h_bool v e = clash cc

@@ -6,7 +6,7 @@ use Rattle.std.proofs.Math.Path.{refl}
 use Rattle.std.proofs.Common.{sym, ap, eqb-true, ne_eqb}
 use Rattle.std.proofs.Math.Bool.{true, false, or-false}
 use Rattle.table.specs.First.{sum_to}
-use Rattle.table.specs.Laws.Sums.{sum_none}
+use Rattle.table.proofs.Laws.Sums.{sum_none}
 
 abbrev pub one : Bool → ℕ
 one true = 1

@@ -14,7 +14,7 @@ use borrow.Author.Tests.{eq-eqb, ne_eqb, lt-ltb, lt-leb, le-leb}
 use Rattle.psl.specs.Booleans.{bit}
 use Rattle.psl.specs.Tells.{any}
 use Rattle.words.specs.Bits.{bit_none, bit_or_lem, bit_and_lem, bit_shr, bit_mod, bit_shifted, same_bits}
-use Rattle.table.specs.Laws.Spans.{all_from, every}
+use Rattle.table.proofs.Laws.Spans.{all_from, every}
 use Rattle.accepted.specs.Shapes.{same, same_eq}
 use Rattle.lanes.specs.SetSteps.{below, below_suc, below_zero, below_all}
 use Rattle.lanes.specs.Families.{word, word_bit, word_lt, no_six, only_six, image}

@@ -15,7 +15,7 @@ use Rattle.psl.specs.Tells.{any, tells_value, tells_any}
 use Rattle.words.specs.Bits.{bit_none, bit_high, set_below, bit_or_lem}
 use Rattle.words.specs.Sets.{WithBit}
 use Rattle.words.specs.Walk.{Turn, Left, left_start, left_turn, left_end}
-use Rattle.table.specs.Laws.Spans.{every}
+use Rattle.table.proofs.Laws.Spans.{every}
 use Rattle.accepted.specs.Shapes.{same, same_eq}
 use Rattle.lanes.specs.Bits.{tells_same}
 use Rattle.lanes.specs.Families.{no_six, only_six, image, set_ends, moves, moved_to}

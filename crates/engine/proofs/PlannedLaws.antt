@@ -18,11 +18,11 @@ use Rattle.table.specs.Kinds.{class_of, takes_of, fields_of, class_ok, in_q}
 use Rattle.table.specs.Rows.{row_at}
 use Rattle.table.specs.Uses.{use_in, uses_in_row, uses_of}
 use Rattle.table.specs.Subset.{Field, field_a, field_b, field_c, holds_in, IsOperand, holds_at, value_at, kind_at, Subset}
-use Rattle.table.specs.Laws.Choices.{picked}
-use Rattle.table.specs.Laws.Rows.{operand_test}
-use Rattle.table.specs.Laws.Numbers.{same_test}
-use Rattle.table.specs.Laws.Spans.{every, class_at}
-use Rattle.table.specs.Laws.Sums.{sum_two}
+use Rattle.table.proofs.Laws.Choices.{picked}
+use Rattle.table.proofs.Laws.Rows.{operand_test}
+use Rattle.table.proofs.Laws.Numbers.{same_test}
+use Rattle.table.proofs.Laws.Spans.{every, class_at}
+use Rattle.table.proofs.Laws.Sums.{sum_two}
 use Rattle.accepted.specs.Shapes.{is_q, implied, by_implied}
 use Rattle.accepted.specs.Sequences.{known}
 use Rattle.table.specs.declared.Counts.{Counts}

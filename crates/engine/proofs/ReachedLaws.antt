@@ -16,7 +16,7 @@ use Rattle.words.specs.Bits.{bit_none, bit_and_lem, bit_not, set_below}
 use Rattle.table.specs.Kinds.{takes_of, fields_by, fields_of}
 use Rattle.table.specs.Rows.{row_at}
 use Rattle.table.specs.Subset.{Field, field_a, field_b, field_c, value_in, holds_in, IsOperand, holds_at, value_at, kind_at, Subset}
-use Rattle.table.specs.Laws.Rows.{operand_test}
+use Rattle.table.proofs.Laws.Rows.{operand_test}
 use Rattle.table.specs.declared.rows.Row.{Row}
 use Rattle.table.specs.declared.kinds.Takes.{Takes}
 use Rattle.table.specs.declared.kinds.Fields.{Fields}

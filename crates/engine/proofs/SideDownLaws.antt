@@ -15,7 +15,7 @@ use Rattle.lanes.specs.Uses.{Use}
 use Rattle.lanes.specs.DownPass.{Work, CellLands, LandsBy, left_use, give}
 use Rattle.lanes.specs.Ideal.{part_of, whole_work, whole_right}
 use Rattle.lanes.specs.Whole.{after_only}
-use Rattle.table.specs.Laws.Numbers.{same_test}
+use Rattle.table.proofs.Laws.Numbers.{same_test}
 use Rattle.words.specs.Bits.{bit_none}
 use Rattle.words.specs.Sets.{Highest}
 use Rattle.words.specs.Walk.{Turn, rest_in, Left, left_start, left_turn, left_end}

@@ -11,7 +11,7 @@ use Rattle.psl.specs.Booleans.{Boolean, bit, sample}
 use Rattle.lanes.specs.Rows.{Row, r_bool, Has, IsSequence, Sound}
 use Rattle.lanes.specs.UpPass.{Part, cell_part, operand}
 use Rattle.lanes.specs.Ideal.{part_of, parts_right}
-use Rattle.table.specs.Laws.Numbers.{same_test}
+use Rattle.table.proofs.Laws.Numbers.{same_test}
 use Rattle.words.specs.Bits.{bit_none}
 use Rattle.words.specs.Sets.{Lowest, WithBit}
 use Rattle.words.specs.Walk.{Turn, rest_in, Left, left_start, left_turn, left_end}

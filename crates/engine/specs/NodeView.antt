@@ -13,9 +13,9 @@ use Rattle.table.specs.Kinds.{class_of, fields_of, takes_of}
 use Rattle.table.specs.Rows.{row_at}
 use Rattle.table.specs.Trees.{boolean_at, sequence_at, property_at}
 use Rattle.table.specs.Subset.{Subset, kind_at, Field, field_a, field_b, field_c, InSubset}
-use Rattle.table.specs.Laws.Spans.{every}
-use Rattle.table.specs.Laws.Choices.{picked, passed}
-use Rattle.table.specs.Facts.Trees.{falls}
+use Rattle.table.proofs.Laws.Spans.{every}
+use Rattle.table.proofs.Laws.Choices.{picked, passed}
+use Rattle.table.proofs.Facts.Trees.{falls}
 use Rattle.table.specs.declared.Counts.{Counts}
 use Rattle.table.specs.declared.kinds.Class.{Class}
 use Rattle.table.specs.declared.kinds.Class.TheVariants.{Boolean as IsBoolean, Sequence as IsSequence, Property as IsProperty, Strong, Unknown}

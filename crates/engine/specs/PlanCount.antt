@@ -7,7 +7,7 @@ use Rattle.psl.specs.Tells.{tells_eq, tells_lt, tells_and, tells_or, tells_value
 use Rattle.table.specs.Choice.{pick}
 use Rattle.table.specs.Kinds.{class_of, fields_of, takes_of, class_ok, in_q}
 use Rattle.table.specs.Subset.{Subset, kind_at, Field, field_a, field_b, field_c, holds_in, holds_at, value_at, IsOperand}
-use Rattle.table.specs.Laws.Spans.{every}
+use Rattle.table.proofs.Laws.Spans.{every}
 use Rattle.table.specs.declared.Counts.{Counts}
 use Rattle.table.specs.declared.kinds.Class.{Class}
 use Rattle.table.specs.declared.kinds.Class.TheVariants.{Boolean as IsBoolean, Sequence as IsSequence, Property as IsProperty, Strong, Unknown}

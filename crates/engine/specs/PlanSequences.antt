@@ -9,8 +9,8 @@ use Rattle.table.specs.Choice.{pick}
 use Rattle.table.specs.Kinds.{class_of, fields_of, takes_of, class_ok, in_q}
 use Rattle.table.specs.Trees.{boolean_at}
 use Rattle.table.specs.Subset.{Subset, kind_at, Field, field_a, field_b, holds_in, value_at, IsOperand}
-use Rattle.table.specs.Laws.Spans.{every}
-use Rattle.table.specs.Facts.Trees as Tree
+use Rattle.table.proofs.Laws.Spans.{every}
+use Rattle.table.proofs.Facts.Trees as Tree
 use Rattle.table.specs.declared.Counts.{Counts}
 use Rattle.table.specs.declared.kinds.Class.{Class}
 use Rattle.table.specs.declared.kinds.Holds.{Holds}

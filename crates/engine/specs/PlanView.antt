@@ -15,8 +15,8 @@ use Rattle.table.specs.Kinds.{class_of, fields_of, takes_of, in_f}
 use Rattle.table.specs.Rows.{row_at}
 use Rattle.table.specs.Trees.{boolean_at, sequence_at, property_at}
 use Rattle.table.specs.Subset.{Subset, kind_at, Field, field_a, field_b, field_c, InSubset, IsOperand, holds_at, value_at}
-use Rattle.table.specs.Laws.Spans.{every}
-use Rattle.table.specs.Facts.Trees as Tree
+use Rattle.table.proofs.Laws.Spans.{every}
+use Rattle.table.proofs.Facts.Trees as Tree
 use Rattle.table.specs.declared.Counts.{Counts}
 use Rattle.table.specs.declared.kinds.Holds.{Holds}
 use Rattle.table.specs.declared.kinds.Holds.TheVariants.{Nothing, Signal, B, Q, F}

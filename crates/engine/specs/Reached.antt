@@ -2,7 +2,7 @@
 use Rattle.std.specs.Prelude.{ℕ, ◌%◌, ◌<◌, ◌≡◌, Bool, true, ◌&&◌, List, ◌⊎◌, leb}
 use Rattle.psl.specs.Booleans.{bit}
 use Rattle.table.specs.Subset.{Field, holds_at, value_at, kind_at}
-use Rattle.table.specs.Laws.Rows.{operand_test}
+use Rattle.table.proofs.Laws.Rows.{operand_test}
 use Rattle.table.specs.declared.kinds.Holds.{Holds}
 use Rattle.engine.specs.Reads.{a_of}
 

@@ -5,7 +5,7 @@ ghost use Rattle.words.specs.Sets.{WithBit};
 ghost use Rattle.table.specs.Kinds.{class_of};
 ghost use Rattle.table.specs.Subset.{kind_at, Subset};
 ghost use Rattle.table.specs.declared.kinds.Class.TheVariants.{Sequence};
-ghost use Rattle.table.specs.Laws.Rows.{operand_test};
+ghost use Rattle.table.proofs.Laws.Rows.{operand_test};
 ghost use Rattle.table.specs.declared.Counts.{Counts};
 ghost use Rattle.engine.specs.Planned.{Planned};
 ghost use Rattle.engine.specs.Reached.{follows, Joined, Spread, is_chosen};

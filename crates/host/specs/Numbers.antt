@@ -5,7 +5,7 @@ use Rattle.psl.specs.Verdicts.{Verdict, broken, settled, pending, Right, is_brok
 use Rattle.table.specs.Reply.{Reply, refused, granted, not_both, refused_one}
 use Rattle.table.specs.Trees.{property_of}
 use Rattle.table.specs.Check.{check_of, checked_reply, table_reply}
-use Rattle.table.specs.Facts.Refusals.{refusal_of_table}
+use Rattle.table.proofs.Facts.Refusals.{refusal_of_table}
 use Rattle.table.specs.declared.Counts.{Counts}
 use Rattle.table.specs.declared.Checked.{Checked}
 use Rattle.table.specs.declared.Checked.TheVariants.{Accepted, Refused}

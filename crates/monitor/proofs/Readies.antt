@@ -13,7 +13,7 @@ use Rattle.table.specs.declared.Counts.{Counts}
 use Rattle.table.specs.declared.Refusal.{Refusal}
 use Rattle.table.specs.declared.Checked.{Checked}
 use Rattle.table.specs.declared.Checked.TheVariants.{Accepted, Refused}
-use Rattle.table.specs.Facts.Accepted.{granted_subset}
+use Rattle.table.proofs.Facts.Accepted.{granted_subset}
 use Rattle.table.specs.declared.kinds.Class.TheVariants.{Sequence}
 use Rattle.engine.specs.declared.plan.Plan.{Plan}
 use Rattle.engine.specs.Planned.{Planned}

@@ -8,7 +8,7 @@ use lib.Dec.{T}
 use Rattle.psl.specs.Tells.{Tells, tells_true, true_tells}
 use Rattle.psl.specs.Verdicts as Psl
 use Rattle.table.specs.Reply.{Reply, refused, granted}
-use Rattle.table.specs.Laws.Runs.{clash}
+use Rattle.table.proofs.Laws.Runs.{clash}
 use Rattle.words.specs.Sets.{HasFrom}
 use Rattle.monitor.specs.declared.Verdict.{Verdict}
 use Rattle.monitor.specs.declared.Verdict.TheVariants.{Broken, Settled, Pending}

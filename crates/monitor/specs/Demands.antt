@@ -12,7 +12,7 @@ use Rattle.table.specs.Reply.{Reply, refused, granted, not_both, granted_one}
 use Rattle.table.specs.Trees.{property_of}
 use Rattle.table.specs.Check.{table_reply}
 use Rattle.table.specs.declared.Counts.{Counts}
-use Rattle.table.specs.Laws.Runs.{clash}
+use Rattle.table.proofs.Laws.Runs.{clash}
 use Rattle.monitor.specs.declared.Monitor.{Monitor}
 use Rattle.monitor.specs.declared.Verdict.{Verdict}
 use Rattle.monitor.specs.declared.Verdict.TheVariants.{Broken, Settled, Pending}

@@ -14,7 +14,7 @@ use Rattle.table.specs.Roots.{root_at}
 use Rattle.table.specs.Trees.{property_at, property_of}
 use Rattle.table.specs.Check.{table_reply}
 use Rattle.table.specs.Subset.{Layout}
-use Rattle.table.specs.Facts.Accepted.{granted_subset}
+use Rattle.table.proofs.Facts.Accepted.{granted_subset}
 use Rattle.table.specs.declared.Counts.{Counts}
 use Rattle.words.specs.Sets.{HasFrom}
 use Rattle.words.specs.Ends.{has_from}

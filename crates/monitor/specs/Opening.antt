@@ -4,7 +4,7 @@ use Rattle.std.proofs.Common.{arith, ◌∙◌, ap}
 use Rattle.std.proofs.Math.Decide.{dec_lt}
 use Rattle.psl.specs.Booleans.{bit}
 use Rattle.table.specs.Choice.{pick}
-use Rattle.table.specs.Laws.Zeros.{zeros}
+use Rattle.table.proofs.Laws.Zeros.{zeros}
 use Rattle.table.specs.Kinds.{class_of}
 use Rattle.table.specs.declared.kinds.Class.TheVariants.{Sequence}
 use Rattle.table.specs.Subset.{Subset, kind_at}

@@ -7,8 +7,8 @@ use Rattle.psl.specs.Verdicts.{broken, settled, pending}
 use Rattle.little.specs.Bytes.{u16_at}
 use Rattle.table.specs.Reply.{refused, granted}
 use Rattle.table.specs.Check.{table_reply}
-use Rattle.table.specs.Facts.Accepted.{granted_subset}
-use Rattle.table.specs.Laws.Runs.{clash}
+use Rattle.table.proofs.Facts.Accepted.{granted_subset}
+use Rattle.table.proofs.Laws.Runs.{clash}
 use Rattle.table.specs.declared.Counts.{Counts}
 use Rattle.table.specs.declared.Refusal.{Refusal}
 use Rattle.monitor.specs.Follows.{answer_reply}

@@ -5,8 +5,8 @@ use Rattle.std.proofs.Common.{arith, sym, ◌∙◌, subst}
 use Rattle.psl.specs.Verdicts.{Verdict, broken, settled, pending}
 use Rattle.table.specs.Reply.{refused, granted, not_both, granted_one, refused_one}
 use Rattle.table.specs.Check.{table_reply}
-use Rattle.table.specs.Facts.Accepted.{granted_subset}
-use Rattle.table.specs.Laws.Runs.{clash}
+use Rattle.table.proofs.Facts.Accepted.{granted_subset}
+use Rattle.table.proofs.Laws.Runs.{clash}
 use Rattle.table.specs.declared.Counts.{Counts}
 use Rattle.table.specs.declared.Refusal.{Refusal}
 use Rattle.monitor.specs.Unique.{too_far}

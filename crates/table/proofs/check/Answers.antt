@@ -1,7 +1,7 @@
 use Rattle.std.proofs.Common.{ap, sym, ◌∙◌}
 use Rattle.table.specs.Check.{checked_reply, check_of, answer}
-use Rattle.table.specs.Laws.Rows.{head_refused, head_accepted}
-use Rattle.table.specs.Laws.Headers.{header_so}
+use Rattle.table.proofs.Laws.Rows.{head_refused, head_accepted}
+use Rattle.table.proofs.Laws.Headers.{header_so}
 use Rattle.table.proofs.check.Goals as goal
 
 pub returns-in_default : goal.returns-in_default

@@ -1,6 +1,6 @@
 use Rattle.std.proofs.Common.{◌∙◌}
 use Rattle.table.specs.Check.{or_else, uses_onward, roots_onward}
-use Rattle.table.specs.Laws.Rows.{rows_fall}
+use Rattle.table.proofs.Laws.Rows.{rows_fall}
 use Rattle.table.proofs.roots_onward.Goals as goal
 
 pub first_cells-cells-requires : goal.first_cells-cells-requires

@@ -1,7 +1,7 @@
 use Rattle.std.proofs.Common.{sym, ◌∙◌}
 use Rattle.table.specs.Check.{rows_onward}
-use Rattle.table.specs.Laws.Rows.{or_at, or_on}
-use Rattle.table.specs.Laws.Runs.{clear_all}
+use Rattle.table.proofs.Laws.Rows.{or_at, or_on}
+use Rattle.table.proofs.Laws.Runs.{clear_all}
 use Rattle.table.proofs.rows_onward.Goals as goal
 
 pub roots_onward-requires : goal.roots_onward-requires

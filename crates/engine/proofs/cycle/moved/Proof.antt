@@ -1,6 +1,6 @@
 use borrow.Author.Rules.{rules}
 use lib.ListN.{replicate}
-use Rattle.table.specs.Laws.Zeros.{zeros}
+use Rattle.table.proofs.Laws.Zeros.{zeros}
 use Rattle.engine.specs.CycleWeaks.{no_weaks}
 use Rattle.engine.proofs.CycleLaws.{weaks_left}
 use Rattle.engine.proofs.cycle.moved.Statement.{statement}

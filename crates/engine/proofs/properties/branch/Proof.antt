@@ -1,6 +1,6 @@
 use mathlib.Core.Path.{sym, ◌∙◌}
 use borrow.Author.Tests.{eq-eqb, ne_eqb}
-use Rattle.table.specs.Laws.Choices.{yes_so, no_so}
+use Rattle.table.proofs.Laws.Choices.{yes_so, no_so}
 use Rattle.engine.specs.PropertyVisits.{branch_at}
 use borrow.Author.Rules.{rules}
 use Rattle.engine.proofs.properties.branch.Statement.{statement}

@@ -1,5 +1,5 @@
 use borrow.Author.Tests.{eq-eqb, ne_eqb}
-use Rattle.table.specs.Laws.Choices.{yes_so, no_so}
+use Rattle.table.proofs.Laws.Choices.{yes_so, no_so}
 use Rattle.engine.specs.PropertyVisits.{guard_at}
 use borrow.Author.Rules.{rules}
 use Rattle.engine.proofs.properties.guard.Statement.{statement}

@@ -1,7 +1,7 @@
 use mathlib.Core.Path.{refl, ap}
 use mathlib.Core.Bool.{not}
 use borrow.Author.Tests.{eq-eqb, ne_eqb}
-use Rattle.table.specs.Laws.Choices.{yes_so, no_so}
+use Rattle.table.proofs.Laws.Choices.{yes_so, no_so}
 use Rattle.engine.specs.PropertyVisits.{lasts_at}
 use borrow.Author.Rules.{rules}
 use Rattle.engine.proofs.properties.lasts.Statement.{statement}

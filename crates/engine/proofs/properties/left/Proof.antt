@@ -2,7 +2,7 @@ use Prim.Native.Nat.{ℕ}
 use mathlib.Core.Path.{◌∙◌, ap, ap₂}
 use mathlib.Core.Bool.{Bool}
 use borrow.Author.Tests.{eq-eqb, ne_eqb}
-use Rattle.table.specs.Laws.Choices.{yes_so, no_so}
+use Rattle.table.proofs.Laws.Choices.{yes_so, no_so}
 use Rattle.engine.specs.PropertyVisits.{Stage, stage_of, begun_at, kept_at, matched_at, left_at}
 use borrow.Author.Rules.{rules}
 use Rattle.engine.proofs.properties.left.Statement.{statement}

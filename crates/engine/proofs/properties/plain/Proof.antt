@@ -1,5 +1,5 @@
 use borrow.Author.Tests.{eq-eqb, ne_eqb, le-leb, lt-leb}
-use Rattle.table.specs.Laws.Choices.{yes_so, no_so}
+use Rattle.table.proofs.Laws.Choices.{yes_so, no_so}
 use Rattle.engine.specs.PropertyVisits.{plain_at}
 use borrow.Author.Rules.{rules}
 use Rattle.engine.proofs.properties.plain.Statement.{statement}

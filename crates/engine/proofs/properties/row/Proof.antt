@@ -1,5 +1,5 @@
 use borrow.Author.Tests.{lt-ltb, le-ltb}
-use Rattle.table.specs.Laws.Choices.{yes_so, no_so}
+use Rattle.table.proofs.Laws.Choices.{yes_so, no_so}
 use Rattle.engine.specs.PropertyVisits.{visit_at}
 use borrow.Author.Rules.{rules}
 use Rattle.engine.proofs.properties.row.Statement.{statement}

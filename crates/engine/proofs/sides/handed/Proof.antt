@@ -1,5 +1,5 @@
 use mathlib.Core.Path.{refl, sym, ◌∙◌}
-use Rattle.table.specs.Laws.Choices.{no_way}
+use Rattle.table.proofs.Laws.Choices.{no_way}
 use borrow.Author.Rules.{rules}
 use Rattle.engine.proofs.sides.handed.Statement.{statement}
 use Rattle.engine.proofs.sides.handed.Tie as tie

@@ -1,7 +1,7 @@
 use mathlib.Core.Path.{ap}
 use lib.Dec.{eqb}
 use borrow.Author.Tests.{lt-ltb, le-ltb}
-use Rattle.table.specs.Laws.Choices.{yes_so, no_so, said_ne}
+use Rattle.table.proofs.Laws.Choices.{yes_so, no_so, said_ne}
 use Rattle.engine.specs.Truths.{compound_at, holds_at}
 use borrow.Author.Rules.{rules}
 use Rattle.engine.proofs.truths.holds.Statement.{statement}

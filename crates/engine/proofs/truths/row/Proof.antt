@@ -1,4 +1,4 @@
-use Rattle.table.specs.Laws.Choices.{said_eq}
+use Rattle.table.proofs.Laws.Choices.{said_eq}
 use Rattle.engine.proofs.TruthLaws.{signal_row}
 use borrow.Author.Rules.{rules}
 use Rattle.engine.proofs.truths.row.Statement.{statement}

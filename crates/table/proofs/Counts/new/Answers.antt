@@ -1,7 +1,7 @@
 use Rattle.std.proofs.Common.{ap, arith, refl, sym, ◌∙◌}
 use Rattle.table.specs.Check.{checked_reply}
 use Rattle.table.specs.Header.{counts_of}
-use Rattle.table.specs.Laws.Choices.{yes_so, no_so, within_so}
+use Rattle.table.proofs.Laws.Choices.{yes_so, no_so, within_so}
 use Rattle.table.proofs.Counts.new.Goals as goal
 
 pub returns-then-not-is_count : goal.returns-then-not-is_count

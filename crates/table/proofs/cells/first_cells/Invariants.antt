@@ -2,7 +2,7 @@ use Rattle.std.proofs.Common.{◌-◌, ◌≡◌, ◌≤◌}
 use Rattle.table.specs.Cells.{cell_rule}
 use Rattle.table.specs.First.{first_refusal}
 use Rattle.table.specs.Passes.{CellsSo}
-use Rattle.table.specs.Laws.Runs.{left}
+use Rattle.table.proofs.Laws.Runs.{left}
 use Rattle.table.proofs.cells.first_cells.Given as goal
 
 abbrev pub invariant-loop-i : goal.invariant-loop-i

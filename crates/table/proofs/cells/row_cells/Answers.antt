@@ -1,6 +1,6 @@
 use Rattle.std.proofs.Common.{arith, refl}
 use Rattle.table.specs.Passes.{row_cells}
-use Rattle.table.specs.Laws.Choices.{yes_so, no_so, so_within, below_no, above_no}
+use Rattle.table.proofs.Laws.Choices.{yes_so, no_so, so_within, below_no, above_no}
 use Rattle.table.proofs.cells.row_cells.Goals as goal
 
 pub returns-in-16-to-18 : goal.returns-in-16-to-18

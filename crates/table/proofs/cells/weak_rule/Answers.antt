@@ -1,7 +1,7 @@
 use Rattle.std.proofs.Common.{arith, get_or, refl}
 use borrow.Author.Tests.{lt-ltb, le-ltb, eq-eqb, ne_eqb}
 use Rattle.table.specs.Passes.{weak_rule}
-use Rattle.table.specs.Laws.Choices.{yes_so, no_so}
+use Rattle.table.proofs.Laws.Choices.{yes_so, no_so}
 use Rattle.table.proofs.cells.weak_rule.Goals as goal
 
 pub returns-then-kept-gt-MOST : goal.returns-then-kept-gt-MOST

@@ -1,8 +1,8 @@
 use Rattle.std.proofs.Common.{ap, refl, ◌∙◌}
 use borrow.Author.Tests.{le-ltb, lt-ltb}
 use Rattle.table.specs.Header.{header_of, counts_of, laid_out}
-use Rattle.table.specs.Laws.Choices.{yes_so, no_so, said_eq, said_ne}
-use Rattle.table.specs.Facts.Accepted.{replies_one}
+use Rattle.table.proofs.Laws.Choices.{yes_so, no_so, said_eq, said_ne}
+use Rattle.table.proofs.Facts.Accepted.{replies_one}
 use Rattle.table.proofs.header.header.Goals as goal
 
 pub returns-then-table-lt16 : goal.returns-then-table-lt16

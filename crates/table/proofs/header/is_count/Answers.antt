@@ -1,6 +1,6 @@
 use Rattle.std.proofs.Common.{refl}
 use borrow.Author.Tests.{le-leb, lt-leb}
-use Rattle.table.specs.Laws.Choices.{yes_so, no_so}
+use Rattle.table.proofs.Laws.Choices.{yes_so, no_so}
 use Rattle.table.proofs.header.is_count.Goals as goal
 
 pub returns-then-count-ge1 : goal.returns-then-count-ge1

@@ -1,6 +1,6 @@
 use Rattle.std.proofs.Common.{refl}
 use Rattle.table.specs.Header.{layout_fits}
-use Rattle.table.specs.Laws.Choices.{yes_so, no_so, said_eq, said_ne}
+use Rattle.table.proofs.Laws.Choices.{yes_so, no_so, said_eq, said_ne}
 use Rattle.table.proofs.header.layout_fits.Goals as goal
 
 pub returns-then-u16_at-ne16 : goal.returns-then-u16_at-ne16

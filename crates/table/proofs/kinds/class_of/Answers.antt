@@ -2,7 +2,7 @@ use Rattle.std.proofs.Common.{arith}
 use Rattle.table.specs.Choice.{pick}
 use Rattle.table.specs.Kinds.{class_of}
 use Rattle.table.specs.declared.kinds.Class.TheVariants.{Boolean, Sequence, Property, Strong, Unknown}
-use Rattle.table.specs.Laws.Spans.{class_at}
+use Rattle.table.proofs.Laws.Spans.{class_at}
 use Rattle.table.proofs.kinds.class_of.Goals as goal
 
 pub returns-in-1-to-6 : goal.returns-in-1-to-6

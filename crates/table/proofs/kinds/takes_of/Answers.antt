@@ -2,7 +2,7 @@ use Rattle.std.proofs.Common.{arith}
 use Rattle.std.proofs.Math.Decide.{dec_lt}
 use Rattle.table.specs.Choice.{pick}
 use Rattle.table.specs.Kinds.{takes_of}
-use Rattle.table.specs.Laws.Spans.{takes_at}
+use Rattle.table.proofs.Laws.Spans.{takes_at}
 use Rattle.table.specs.declared.kinds.Takes.TheVariants.{None, Signal, B, BB, QQ, Q, FF, F, BFF, BF, FB, QF}
 use Rattle.table.proofs.kinds.takes_of.Goals as goal
 

@@ -1,7 +1,7 @@
 use Rattle.std.proofs.Common.{◌-◌, ◌≡◌, ◌≤◌}
 use Rattle.table.specs.Roots.{root_rule}
 use Rattle.table.specs.First.{first_refusal}
-use Rattle.table.specs.Laws.Runs.{left}
+use Rattle.table.proofs.Laws.Runs.{left}
 use Rattle.table.proofs.roots.first_root.Given as goal
 
 abbrev pub invariant-loop-i : goal.invariant-loop-i

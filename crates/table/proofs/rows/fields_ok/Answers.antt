@@ -1,6 +1,6 @@
 use Rattle.std.proofs.Common.{refl, sym, ◌∙◌}
 use Rattle.table.specs.Rows.{fields_ok}
-use Rattle.table.specs.Laws.Choices.{yes_so, no_so}
+use Rattle.table.proofs.Laws.Choices.{yes_so, no_so}
 use Rattle.table.proofs.rows.fields_ok.Goals as goal
 
 pub returns-then-not-field_ok : goal.returns-then-not-field_ok

@@ -1,7 +1,7 @@
 use Rattle.std.proofs.Common.{◌-◌, ◌≡◌, ◌≤◌}
 use Rattle.table.specs.Rows.{row_rule}
 use Rattle.table.specs.First.{first_refusal}
-use Rattle.table.specs.Laws.Runs.{left}
+use Rattle.table.proofs.Laws.Runs.{left}
 use Rattle.table.proofs.rows.first_row.Given as goal
 
 abbrev pub invariant-loop-i : goal.invariant-loop-i

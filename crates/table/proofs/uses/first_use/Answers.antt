@@ -1,4 +1,4 @@
-use Rattle.table.specs.Laws.Zeros.{zeros}
+use Rattle.table.proofs.Laws.Zeros.{zeros}
 use Rattle.table.proofs.UseLaws.{counted_all}
 use Rattle.table.specs.Uses.{uses_of}
 use Rattle.table.proofs.uses.first_use.Goals as goal

@@ -1,7 +1,7 @@
 use Rattle.std.proofs.Common.{refl}
 use borrow.Author.Tests.{lt-ltb, le-ltb, eq-eqb, ne_eqb}
 use Rattle.table.specs.Uses.{use_rule}
-use Rattle.table.specs.Laws.Choices.{yes_so, no_so}
+use Rattle.table.proofs.Laws.Choices.{yes_so, no_so}
 use Rattle.table.proofs.UseLaws.{once_so, not_once_so}
 use Rattle.table.proofs.uses.use_rule.Goals as goal
 

@@ -14,7 +14,7 @@ use Rattle.table.specs.Uses.{use_rule}
 use Rattle.table.specs.Cells.{cell_rule}
 use Rattle.table.specs.First.{first_from, first_refusal}
 use Rattle.table.specs.Check.{or_else, uses_onward, roots_onward, rows_onward, answer, after_header, check_of}
-use Rattle.table.specs.Laws.Headers.{header_so}
+use Rattle.table.proofs.Laws.Headers.{header_so}
 use Rattle.table.specs.Subset.{Layout}
 use Rattle.table.specs.declared.Counts.{Counts}
 use Rattle.table.specs.declared.Refusal.{Refusal}
