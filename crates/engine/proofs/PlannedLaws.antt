@@ -39,6 +39,10 @@ use Rattle.engine.proofs.ReachedLaws.{or_left, or_right, or_so, and_so, so_and, 
 
 q_operand : (h : Holds) → T (is_q h) → IsOperand h
 q_operand Q q = tt
+q_operand Nothing q = elim q [ ]
+q_operand Signal q = elim q [ ]
+q_operand B q = elim q [ ]
+q_operand F q = elim q [ ]
 
 -- the operands of a sequence and of a weak sequence stand as sequences
 abbrev q_test : Field → ℕ → Bool
@@ -115,6 +119,10 @@ sequence_class t n s = sym (class_at 16 5 Sequence (unfold class_of pick in tt) 
 up_to_sequence : (h : Holds) (k : ℕ) → k < 51 → T (is_q h) → T (class_ok h (class_of k)) → k ≤ 20
 unfolding class_of pick
 up_to_sequence Q k l q o = leb-true k 20 (T_true _ (by_implied (in_q (class_of k)) (leb k 20) (every (λ j. implied (in_q (class_of j)) (leb j 20)) 0 51 tt k (omega arith) (omega arith)) (T_true _ o)))
+up_to_sequence Nothing k l q o = elim q [ ]
+up_to_sequence Signal k l q o = elim q [ ]
+up_to_sequence B k l q o = elim q [ ]
+up_to_sequence F k l q o = elim q [ ]
 
 -- ---- the chosen rows
 

@@ -43,6 +43,10 @@ keeps_owner row live x enter (r_alt a b) n false w s = refl
 keeps_owner row live x enter (r_alt a b) n true w s = refl
 keeps_owner row live x enter (r_star a) n f w s = refl
 keeps_owner row live x enter (r_plus a) n f w s = refl
+keeps_owner row live x enter (r_bool _) n f w s = elim s [ ]
+keeps_owner row live x enter (r_weak _) n f w s = elim s [ ]
+keeps_owner row live x enter (r_left _) n f w s = elim s [ ]
+keeps_owner row live x enter r_rest n f w s = elim s [ ]
 
 module _ (t : List ℕ) (row : ℕ → Row) (table : Table row) (booleans weaks truth begin x : ℕ) (live : ℕ → Bool → Bool) (enter : ℕ → Bool) (acts counts : List ℕ)
     (H : WeakPass t row booleans weaks truth begin x enter acts counts) where

@@ -51,6 +51,10 @@ lands_row d (r_fuse a b) n f v w s h = h
 lands_row d (r_alt a b) n f v w s h = h
 lands_row d (r_star a) n f v w s h = h
 lands_row d (r_plus a) n f v w s h = h
+lands_row d (r_bool _) n f v w s h = elim s [ ]
+lands_row d (r_weak _) n f v w s h = elim s [ ]
+lands_row d (r_left _) n f v w s h = elim s [ ]
+lands_row d r_rest n f v w s h = elim s [ ]
 
 pub clash : {b : Bool} → b ≡ true → b ≡ false → ⊥
 clash p q = subst T (sym p ∙ q) tt

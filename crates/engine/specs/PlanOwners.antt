@@ -46,6 +46,10 @@ module _ (t : List ℕ) (c : Counts) (z : Subset t c) (root booleans sides weaks
   keeps_owner (r_alt a b) n true w s = refl
   keeps_owner (r_star a) n f w s = refl
   keeps_owner (r_plus a) n f w s = refl
+  keeps_owner (r_bool _) n f w s = elim s [ ]
+  keeps_owner (r_weak _) n f w s = elim s [ ]
+  keeps_owner (r_left _) n f w s = elim s [ ]
+  keeps_owner r_rest n f w s = elim s [ ]
 
   lands_use : (R : Row) (n : ℕ) (f : Bool) (v : ℕ) (w : Use) → IsSequence R → LandsBy done R n f v w → done.uses v ≡ w
   lands_use (r_then a b) n f v w s h = h
@@ -53,6 +57,10 @@ module _ (t : List ℕ) (c : Counts) (z : Subset t c) (root booleans sides weaks
   lands_use (r_alt a b) n f v w s h = h
   lands_use (r_star a) n f v w s h = h
   lands_use (r_plus a) n f v w s h = h
+  lands_use (r_bool _) n f v w s h = elim s [ ]
+  lands_use (r_weak _) n f v w s h = elim s [ ]
+  lands_use (r_left _) n f v w s h = elim s [ ]
+  lands_use r_rest n f v w s h = elim s [ ]
 
   sequence_is : (n : ℕ) → p.reached n ≡ true → InSequence t n → IsSequence (row n)
   sequence_is n e s = by (sequence_row_lem t c z root booleans sides weaks p root_low n e s)

@@ -1,0 +1,14 @@
+use borrow.Author.Tests.{not-true, not-false}
+use Rattle.engine.proofs.ReachedLaws.{told, joined_none, joined_is}
+use Rattle.engine.proofs.plan.joined.Goals as goal
+
+pub returns : goal.returns
+returns c =
+    joined_is _ _ _ _ _ _ _
+    c.row_at-row.ensures
+    c.takes_of.ensures
+    c.fields_by-fields.ensures
+    (told _ _ c.requires c.bit.ensures (not-false _ c.if-not-bit.false))
+    c.with_field-with_a.ensures
+    c.with_field-with_b.ensures
+    c.with_field.ensures

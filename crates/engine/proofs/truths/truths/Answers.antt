@@ -1,0 +1,10 @@
+use Rattle.std.proofs.Common.{arith}
+use Rattle.engine.proofs.TruthLaws.{Known, known_start, known_turn, known_end}
+use Rattle.words.specs.Walk.{turn_up}
+use Rattle.engine.proofs.truths.truths.Goals as goal
+
+pub loop-left-preserved : goal.loop-left-preserved
+loop-left-preserved c = known_turn c.loop-left.invariant (omega arith) c.lowest-n.ensures c.without_lowest-left.ensures c.row-truth.ensures
+
+pub returns : goal.returns
+returns c = let k = rw c.loop-left-test.false at c.loop-left.invariant in (k.only, known_end k)
