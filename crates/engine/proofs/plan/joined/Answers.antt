@@ -1,4 +1,3 @@
-use borrow.Author.Tests.{not-true, not-false}
 use Rattle.engine.proofs.ReachedLaws.{told, joined_none, joined_is}
 use Rattle.engine.proofs.plan.joined.Goals as goal
 
@@ -8,7 +7,7 @@ returns c =
     c.row_at-row.ensures
     c.takes_of.ensures
     c.fields_by-fields.ensures
-    (told _ _ c.requires c.bit.ensures (not-false _ c.if-not-bit.false))
+    (told _ _ c.requires c.bit.ensures c.if-not-bit.false)
     c.with_field-with_a.ensures
     c.with_field-with_b.ensures
     c.with_field.ensures

@@ -2,16 +2,13 @@ use Rattle.std.proofs.Common.{refl}
 use Rattle.engine.proofs.PlannedLaws.{plan_is}
 use Rattle.engine.proofs.plan.planned.Goals as goal
 
-pub returns : goal.returns
-returns c = (
-  refl,
-  λ counts z inside no_sequence. plan_is _ counts z _ _ _ _ _ _ _ _ _ inside no_sequence
-      c.with_bit.ensures
-      (c.spread-rows.ensures counts z)
-      c.chosen.ensures
-      (c.spread-weaks.ensures counts z)
-      c.chosen-2.ensures
-      c.but-sequences.ensures
-      c.chosen-3.ensures
-      c.chosen-4.ensures,
-)
+pub returns-clause-planned : goal.returns-clause-planned
+returns-clause-planned c = λ counts z inside no_sequence. plan_is _ counts z _ _ _ _ _ _ _ _ _ inside no_sequence
+    c.with_bit.ensures
+    (c.spread-rows.ensures counts z)
+    c.chosen.ensures
+    (c.spread-weaks.ensures counts z)
+    c.chosen-2.ensures
+    c.but-sequences.ensures
+    c.chosen-3.ensures
+    c.chosen-4.ensures

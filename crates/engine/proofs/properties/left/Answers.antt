@@ -11,15 +11,13 @@ returns-then-kind-eq42 c = yes_so _ _ _ (eq-eqb _ _ c.if-kind-eq42.true) c.runni
 pub returns-then-kind-eq40 : goal.returns-then-kind-eq40
 unfolding stage_of left_at
 returns-then-kind-eq40 c =
-    let at = c.before in let start = at.before.before.before.before.args in
-    no_so _ _ _ (ne_eqb _ _ at.before.before.if1.false) (yes_so _ _ _ (eq-eqb _ _ c.if-kind-eq40.true)
-    (c.begun.ensures ∙ ap₂ (λ (v : ℕ) (on : Bool). begun_at (stage_of start.p) v on) c.b.ensures
-    (at.matched.ensures ∙ ap (matched_at start.table.now start.n start.l) at.before.bit.ensures)))
+    no_so _ _ _ (ne_eqb _ _ c.if-kind-eq42.false) (yes_so _ _ _ (eq-eqb _ _ c.if-kind-eq40.true)
+    (c.begun.ensures ∙ ap₂ (λ (v : ℕ) (on : Bool). begun_at (stage_of c.args.p) v on) c.b.ensures
+    (c.matched-ended.ensures ∙ ap (matched_at c.args.table.now c.args.n c.args.l) c.bit.ensures)))
 
 pub returns : goal.returns
 unfolding stage_of left_at
 returns c =
-    let at = c.before in let start = at.before.before.before.before.args in
-    no_so _ _ _ (ne_eqb _ _ at.before.before.if1.false) (no_so _ _ _ (ne_eqb _ _ c.if-kind-eq40.false)
-    (c.kept.ensures ∙ ap₂ (λ (s : Stage) (on : Bool). kept_at s start.n on) (rw (c.b-2.ensures, c.owes.ensures) at c.begun-2.ensures)
-    (at.matched.ensures ∙ ap (matched_at start.table.now start.n start.l) at.before.bit.ensures)))
+    no_so _ _ _ (ne_eqb _ _ c.if-kind-eq42.false) (no_so _ _ _ (ne_eqb _ _ c.if-kind-eq40.false)
+    (c.kept.ensures ∙ ap₂ (λ (s : Stage) (on : Bool). kept_at s c.args.n on) (rw (c.b-2.ensures, c.owes.ensures) at c.begun-2.ensures)
+    (c.matched-ended.ensures ∙ ap (matched_at c.args.table.now c.args.n c.args.l) c.bit.ensures)))

@@ -14,9 +14,6 @@ loop-left-preserved c = let inv = c.loop-left.invariant in
           down_turn _ row rows before _ _ truth _ _ x _ enter all users entering found inv.0 c.highest-n.ensures turn c.down-live.ensures (inv.1 row rows before truth x enter all users entering found),
     )
 
-pub returns : goal.returns
-returns c = let inv = c.loop-left.invariant in (
-  (only_in _ _ _ inv.0.a_in, only_in _ _ _ inv.0.b_in),
-  λ row rows before truth x enter all users entering found.
-      down_end _ row rows before _ _ truth _ _ x _ enter (rw c.loop-left-test.false at (inv.1 row rows before truth x enter all users entering found)),
-)
+pub returns-clause-next : goal.returns-clause-next
+returns-clause-next c = λ row rows before truth x enter all users entering found.
+    down_end _ row rows before _ _ truth _ _ x _ enter (rw c.loop-left-test.false at (c.loop-left.invariant.1 row rows before truth x enter all users entering found))

@@ -16,8 +16,5 @@ loop-left-preserved c = let inv = c.loop-left.invariant in
       λ row before x sound all words lit. up_turn _ row before _ _ _ x sound all words lit inv.0 c.lowest-n.ensures turn c.up-hits.ensures (inv.1 row before x sound all words lit),
     )
 
-pub returns : goal.returns
-returns c = let inv = c.loop-left.invariant in (
-  (over_sides _ _ _ _ inv.0.ends_in, over_sides _ _ _ _ inv.0.early_in, over_sides _ _ _ _ inv.0.empty_in),
-  (inv.0.lefts_size, λ row before x sound all words lit. up_end _ row before _ _ _ x (rw c.loop-left-test.false at (inv.1 row before x sound all words lit))),
-)
+pub returns-clause-found : goal.returns-clause-found
+returns-clause-found c = λ row before x sound all words lit. up_end _ row before _ _ _ x (rw c.loop-left-test.false at (c.loop-left.invariant.1 row before x sound all words lit))

@@ -6,5 +6,5 @@ use Rattle.engine.proofs.truths.truths.Goals as goal
 pub loop-left-preserved : goal.loop-left-preserved
 loop-left-preserved c = known_turn c.loop-left.invariant (omega arith) c.lowest-n.ensures c.without_lowest-left.ensures c.row-truth.ensures
 
-pub returns : goal.returns
-returns c = let k = rw c.loop-left-test.false at c.loop-left.invariant in (k.only, known_end k)
+pub returns-clause-each : goal.returns-clause-each
+returns-clause-each c = known_end (rw c.loop-left-test.false at c.loop-left.invariant)
