@@ -1,13 +1,13 @@
 -- What an accepted table gives the passes over sequence rows: operands that are smaller and of the right class, each sequence used once.
-use Rattle.std.specs.Prelude.{ℕ, zero, suc, ◌+◌, ◌*◌, ◌≤◌, ◌<◌, ◌≡◌, Bool, not, ◌&&◌, ◌||◌, List, eqb, ltb}
+use Rattle.std.specs.Prelude.{ℕ, ◌+◌, ◌≤◌, ◌<◌, ◌≡◌, Bool, not, List, eqb, ltb}
 use native.Mathlib.Omega.{arith}
 use Rattle.std.proofs.Math.Decide.{dec_lt}
 use Rattle.std.proofs.Math.Path.{refl, sym}
-use Rattle.std.proofs.Common.{◌∙◌, ap, subst, ltb-true, ltb-false, lt-ltb, le-ltb, eq-eqb, ne_eqb}
+use Rattle.std.proofs.Common.{◌∙◌, subst, ltb-false, lt-ltb, le-ltb, eq-eqb, ne_eqb}
 use Rattle.std.proofs.Math.Bool.{true, false}
 use Rattle.std.proofs.Math.Dec.{T}
-use Rattle.table.specs.Choice.{pick, within}
-use Rattle.table.specs.Kinds.{class_of, fields_of, class_ok, is_sequence}
+use Rattle.table.specs.Choice.{within}
+use Rattle.table.specs.Kinds.{class_of, class_ok, is_sequence}
 use Rattle.table.specs.Rows.{row_at}
 use Rattle.table.specs.Roots.{root_at}
 use Rattle.table.specs.First.{sum_to}
@@ -19,7 +19,7 @@ use Rattle.table.proofs.Laws.Numbers.{same_test}
 use Rattle.table.proofs.Laws.Sums.{sum_one, sum_two, sum_some, sum_none}
 use Rattle.lanes.specs.Rows.{Row, r_rest, Has, IsSequence, IsOperand as StandsAsOperand, Sound}
 use Rattle.accepted.specs.Rows.{shape_of, made, row_of}
-use Rattle.accepted.specs.Shapes.{has_a, has_b, seq_s, Field as ShapeField, has_field, field_has, seq_shape, q_shape, is_q, shape_a, shape_b, shape_c, shape_seq, shape_q, shape_high}
+use Rattle.accepted.specs.Shapes.{seq_s, Field as ShapeField, has_field, field_has, seq_shape, q_shape, is_q, shape_a, shape_b, shape_c, shape_seq, shape_q, shape_high}
 use Rattle.table.specs.declared.Counts.{Counts}
 use Rattle.table.specs.declared.kinds.Class.{Class}
 use Rattle.table.specs.declared.kinds.Class.TheVariants.{Boolean, Sequence, Property, Strong, Unknown}

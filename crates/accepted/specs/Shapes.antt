@@ -1,11 +1,11 @@
 -- The shapes of kinds against the table's classes and fields, computed for each kind.
-use Rattle.std.specs.Prelude.{ℕ, ◌≤◌, ◌<◌, Bool, true, false, not, ◌&&◌, ◌||◌, ◌≡◌, refl, T, ltb}
+use Rattle.std.specs.Prelude.{ℕ, ◌<◌, Bool, true, false, not, ◌||◌, ◌≡◌, refl, T, ltb}
 use Rattle.std.proofs.Common.{arith, sym, subst}
 use Rattle.psl.specs.Booleans.{Boolean}
 use Rattle.table.specs.Choice.{pick}
 use Rattle.table.specs.Kinds.{class_of, takes_of, fields_of, class_ok, is_sequence}
 use Rattle.table.proofs.Laws.Spans.{every}
-use Rattle.lanes.specs.Rows.{Row, Has, IsSequence, IsOperand}
+use Rattle.lanes.specs.Rows.{Has, IsSequence, IsOperand}
 use Rattle.accepted.specs.Rows.{Shape, h_bool, h_then, h_fuse, h_alt, h_star, h_plus, h_weak, h_left, h_rest, shape_of, made}
 use Rattle.table.specs.declared.kinds.Holds.{Holds}
 use Rattle.table.specs.declared.kinds.Holds.TheVariants.{Nothing, Signal, B, Q, F}

@@ -1,8 +1,8 @@
 -- The sequences of an accepted table's rows: what the rows read as, and that a weak one has at most 6 cells.
-use Prim.Native.Nat.{ℕ, zero, suc, ◌+◌, ◌≤◌, ◌<◌}
+use Prim.Native.Nat.{ℕ, zero, suc, ◌≤◌, ◌<◌}
 use native.Mathlib.Omega.{arith}
 use Rattle.std.proofs.Math.Decide.{dec_lt}
-use Rattle.std.specs.Prelude.{◌≡◌, Bool, not, ◌||◌, List, T, eqb}
+use Rattle.std.specs.Prelude.{◌≡◌, Bool, List, T, eqb}
 use Rattle.std.proofs.Math.Path.{refl, sym, ap}
 use Rattle.std.proofs.Common.{◌∙◌, subst, eqb-true}
 use Rattle.std.proofs.Math.Bool.{true, false}

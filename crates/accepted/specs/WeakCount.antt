@@ -1,9 +1,9 @@
 -- At most 32 weak sequences lie in one property of at most 64 rows: the argument of a pass from large numbers to small.
-use Prim.Native.Nat.{ℕ, zero, suc, ◌+◌, ◌≤◌, ◌<◌}
+use Prim.Native.Nat.{ℕ, zero, suc, ◌+◌, ◌≤◌}
 use native.Mathlib.Omega.{arith}
 use Rattle.std.specs.Prelude.{◌≡◌, Bool, ◌&&◌, ◌||◌, eqb}
 use Rattle.std.proofs.Math.Path.{refl}
-use Rattle.std.proofs.Common.{sym, ap, eqb-true, ne_eqb}
+use Rattle.std.proofs.Common.{eqb-true, ne_eqb}
 use Rattle.std.proofs.Math.Bool.{true, false, or-false}
 use Rattle.table.specs.First.{sum_to}
 use Rattle.table.proofs.Laws.Sums.{sum_none}

@@ -5,11 +5,11 @@ use native.Mathlib.Decide.{dec_lt}
 use mathlib.Core.Path.{◌≡◌, refl, sym, ◌∙◌, ap, ap₂, subst, fun_ext}
 use mathlib.Core.Bool.{Bool, true, false, not, ◌&&◌, ◌||◌}
 use mathlib.Core.List.{List}
-use mathlib.Core.Logic.{◌⊎◌, inl, inr, ⊎_elim}
-use lib.Dec.{eqb, ltb}
+use mathlib.Core.Logic.{◌⊎◌, inl, inr}
+use lib.Dec.{ltb}
 use borrow.Author.Tests.{eq-eqb, ne_eqb, lt-ltb, ltb-true}
 use Rattle.psl.specs.Booleans.{bit}
-use Rattle.psl.specs.Tells.{Tells, does, doesnt, tells_or, tells_iff, tells_value}
+use Rattle.psl.specs.Tells.{Tells, doesnt, tells_or, tells_iff, tells_value}
 use Rattle.psl.proofs.Model.Nodes.{Node}
 use Rattle.psl.proofs.Model.Step.{sends, keeps}
 use Rattle.psl.proofs.Model.Pass.{pass}
@@ -17,8 +17,8 @@ use Rattle.psl.proofs.Model.Monitor.{Use, none, merged, ever, apart, use_of}
 use Rattle.lanes.specs.State.{entered}
 use Rattle.words.specs.Bits.{bit_none}
 use Rattle.words.specs.Sets.{Highest}
-use Rattle.engine.specs.Reads.{kind_of, a_of}
-use Rattle.engine.specs.Properties.{PropertyRow, reads_suffix, reads_suffix_next, reads_never, PropertyRows, NeverHit, Passed}
+use Rattle.engine.specs.Reads.{a_of}
+use Rattle.engine.specs.Properties.{PropertyRow, PropertyRows, NeverHit, Passed}
 use Rattle.engine.specs.PropertyVisits.{Stage, stage_of, visit_at, visited}
 use Rattle.engine.specs.declared.properties.Letter.{Letter}
 use Rattle.engine.specs.declared.properties.Pass.{Pass}

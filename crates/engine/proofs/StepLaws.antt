@@ -2,12 +2,12 @@
 use Prim.Native.Nat.{ℕ, ◌%◌, ◌≤◌, ◌<◌}
 use native.Mathlib.Nat.{mod-eq_of_lt}
 use native.Mathlib.Omega.{arith}
-use mathlib.Core.Path.{◌≡◌, refl, sym, ◌∙◌, ap, ap₂, subst}
+use mathlib.Core.Path.{◌≡◌, refl, ◌∙◌, ap}
 use mathlib.Core.Bool.{Bool, true, false, not, ◌&&◌, ◌||◌}
 use mathlib.Core.List.{List}
-use lib.Dec.{T, eqb}
+use lib.Dec.{eqb}
 use borrow.Author.Tests.{eqb-true, ne_eqb}
-use Rattle.psl.specs.Booleans.{Boolean, bit, holds}
+use Rattle.psl.specs.Booleans.{bit, holds}
 use Rattle.psl.specs.Sequences.{Sequence}
 use Rattle.psl.proofs.Marks.Automaton.{nullable}
 use Rattle.psl.proofs.Model.Nodes.{Node, n_bool, n_weak, n_never, n_both, n_next, n_always, n_if_else, n_implies, n_or, n_until, n_suffix, n_suffix_next}
@@ -16,7 +16,7 @@ use Rattle.psl.proofs.Model.Monitor.{use_of}
 use Rattle.lanes.specs.State.{entered}
 use Rattle.table.specs.Choice.{pick}
 use Rattle.engine.specs.Reads.{kind_of, a_of, b_of, c_of}
-use Rattle.engine.specs.Properties.{Inert, inert_boolean, inert_weak, Keeping, keeping_next, keeping_always, keeping_until, keeping_suffix_next, keeping_never, Operand, Condition}
+use Rattle.engine.specs.Properties.{Inert, inert_boolean, inert_weak, Keeping, Operand}
 use Rattle.engine.specs.Properties.{PropertyRow, reads_both, reads_next, reads_if, reads_implies, reads_or, reads_always, reads_until, reads_suffix, reads_suffix_next, reads_never}
 use Rattle.engine.specs.PropertyVisits.{Stage, begun_at, kept_at, branch_at, guard_at, later_at, lasts_at, lasting_at, plain_at, early_at, matched_at, running_at, owes_at, left_at, visit_at}
 use Rattle.engine.specs.declared.properties.Letter.{Letter}

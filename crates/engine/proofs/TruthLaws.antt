@@ -3,12 +3,12 @@ use Prim.Native.Nat.{ℕ, zero, suc, ◌*◌, ◌%◌, ◌^◌, ◌<◌}
 use native.Mathlib.Nat.{mod-eq_of_lt, one-mul, zero-mul}
 use native.Mathlib.Omega.{arith}
 use mathlib.Core.Path.{◌≡◌, refl, sym, ◌∙◌, ap, ap₂, subst}
-use mathlib.Core.Bool.{Bool, true, false, not, ◌&&◌, ◌||◌}
+use mathlib.Core.Bool.{Bool, true, false, ◌&&◌, ◌||◌}
 use mathlib.Core.List.{List}
 use lib.Bits.{bit_or, or_zero_r}
 use lib.Dec.{T, eqb}
 use lib.Pow.{shl_exact}
-use borrow.Author.Tests.{eqb-true, ne_eqb, eq-eqb}
+use borrow.Author.Tests.{ne_eqb, eq-eqb}
 use Rattle.psl.specs.Booleans.{Boolean, bit, holds}
 use Rattle.table.specs.Choice.{pick}
 use Rattle.words.specs.Bits.{bit_none, bit_on}

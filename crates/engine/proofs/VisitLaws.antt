@@ -7,8 +7,8 @@ use lib.Bits.{bit_or, bit_and}
 use lib.Dec.{ltb}
 use borrow.Author.Tests.{lt-ltb}
 use Rattle.psl.specs.Booleans.{bit}
-use Rattle.words.specs.Bits.{bit_or_lem, bit_and_lem, bit_not, set_below}
-use Rattle.engine.specs.Reads.{Held, HeldRows}
+use Rattle.words.specs.Bits.{bit_or_lem, bit_and_lem, bit_not}
+use Rattle.engine.specs.Reads.{HeldRows}
 use Rattle.engine.specs.PropertyVisits.{called, Visitable}
 use Rattle.engine.proofs.TruthLaws.{clash}
 

@@ -1,11 +1,11 @@
 -- What the pass over the property rows leaves is what the cycle begins and holds; and what enters each sequence.
 use Prim.Native.Nat.{ℕ, suc, ◌≤◌, ◌<◌}
-use Rattle.std.proofs.Common.{arith, ◌∙◌, ap, subst}
+use Rattle.std.proofs.Common.{arith, ◌∙◌}
 use Rattle.std.proofs.Math.Decide.{dec_lt}
-use Rattle.std.specs.Prelude.{◌≡◌, refl, Bool, true, false, ◌&&◌, ◌||◌, List, eqb}
+use Rattle.std.specs.Prelude.{◌≡◌, Bool, true, ◌&&◌, List, eqb}
 use Rattle.std.proofs.Math.Path.{sym, ap₂, fun_ext}
 use Rattle.psl.specs.Booleans.{bit}
-use Rattle.psl.proofs.Model.Nodes.{Node, n_weak, n_never, n_suffix, n_suffix_next}
+use Rattle.psl.proofs.Model.Nodes.{Node}
 use Rattle.psl.proofs.Model.Step.{keeps}
 use Rattle.psl.proofs.Model.Pass.{pass}
 use Rattle.psl.proofs.Model.Monitor as M
@@ -17,7 +17,7 @@ use Rattle.lanes.specs.Expected.{Table}
 use Rattle.lanes.specs.State.{Kept, entered}
 use Rattle.lanes.specs.Cycle.{hit, begins, enters, held_next}
 use Rattle.engine.specs.Reads.{kind_of}
-use Rattle.engine.specs.Planned.{Planned, OverLeft}
+use Rattle.engine.specs.Planned.{Planned}
 use Rattle.engine.specs.Properties.{Passed}
 use Rattle.engine.specs.Sides.{SidesEnter}
 use Rattle.engine.specs.NodeView.{node_by}

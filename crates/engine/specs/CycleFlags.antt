@@ -4,7 +4,7 @@ use Rattle.std.proofs.Common.{arith, ◌∙◌, ap₂, subst, inl, inr, ⊎_elim
 use Rattle.std.proofs.Math.Decide.{dec_le}
 use Rattle.std.proofs.Math.Path.{refl, sym, ap}
 use Rattle.std.proofs.Math.Bool.{true, false}
-use Rattle.psl.specs.Booleans.{Boolean, bit, holds, sample}
+use Rattle.psl.specs.Booleans.{bit, holds, sample}
 use Rattle.psl.specs.Sequences.{Sequence}
 use Rattle.psl.specs.Tells.{Tells, any, tells_any, tells_and, tells_or, tells_value, tells_not_value, tells_true, tells_no, tells_iff}
 use Rattle.psl.proofs.Model.Nodes.{Node, n_never}

@@ -1,6 +1,6 @@
 -- The pending sets of weak sequences: what moving them depends on, and which row a family belongs to.
-use Rattle.std.specs.Prelude.{ℕ, zero, suc, ◌+◌, ◌-◌, ◌≤◌, ◌<◌, ◌^◌, ◌≡◌, refl, Bool, true, false, not, ◌&&◌, ◌||◌, List, ◌⊎◌, T, eqb}
-use Rattle.std.proofs.Common.{zero-add, suc-add, arith, sym, ◌∙◌, ap, ap₂, subst, inl, inr, ⊎_elim}
+use Rattle.std.specs.Prelude.{ℕ, zero, suc, ◌+◌, ◌-◌, ◌≤◌, ◌<◌, ◌^◌, ◌≡◌, refl, Bool, true, not, ◌&&◌, ◌||◌, List, eqb}
+use Rattle.std.proofs.Common.{zero-add, suc-add, arith, ◌∙◌, ap, ap₂, ⊎_elim}
 use Rattle.std.proofs.Math.Decide.{dec_lt}
 use Rattle.psl.specs.Booleans.{bit}
 use Rattle.psl.specs.Tells.{Tells, any, tells_any, tells_and, tells_or, tells_value, tells_eq, tells_true, true_tells, does, doesnt}

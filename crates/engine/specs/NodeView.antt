@@ -1,21 +1,18 @@
 -- A property's rows as nodes of the model: those that the property reaches; any other neither sends, keeps nor breaks.
-use Rattle.std.specs.Prelude.{ℕ, zero, suc, ◌≤◌, ◌<◌, ◌≡◌, Bool, true, false, ◌&&◌, ◌||◌, List, ◌⊎◌, T, eqb, ltb}
-use Rattle.std.proofs.Common.{arith, sym, ◌∙◌, ap₂, subst, inl, inr, ⊎_elim, lt-ltb, le-ltb, ne_eqb}
+use Rattle.std.specs.Prelude.{ℕ, ◌≤◌, ◌<◌, ◌≡◌, Bool, true, false, ◌&&◌, ◌||◌, List, ◌⊎◌, T, eqb, ltb}
+use Rattle.std.proofs.Common.{arith, ◌∙◌, ⊎_elim, lt-ltb, le-ltb, ne_eqb}
 use Rattle.std.proofs.Math.Decide.{dec_lt}
 use Rattle.std.proofs.Math.Path.{refl, ap}
 use Rattle.psl.specs.Booleans.{Boolean, constant}
 use Rattle.psl.specs.Sequences.{Sequence}
-use Rattle.psl.specs.Properties.{Property}
-use Rattle.psl.specs.Tells.{tells_dec, tells_eq, tells_lt, tells_or, tells_and, tells_true}
-use Rattle.psl.proofs.Model.Nodes.{Node, n_bool, n_weak, n_never, n_both, n_next, n_always, n_if_else, n_implies, n_or, n_until, n_suffix, n_suffix_next, Falls, build, prop_at, prop_at_is}
-use Rattle.table.specs.Choice.{pick, within}
-use Rattle.table.specs.Kinds.{class_of, fields_of, takes_of}
-use Rattle.table.specs.Rows.{row_at}
-use Rattle.table.specs.Trees.{boolean_at, sequence_at, property_at}
-use Rattle.table.specs.Subset.{Subset, kind_at, Field, field_a, field_b, field_c, InSubset}
+use Rattle.psl.specs.Tells.{tells_lt, tells_or, tells_and, tells_true}
+use Rattle.psl.proofs.Model.Nodes.{Node, n_bool, n_weak, n_never, n_both, n_next, n_always, n_if_else, n_implies, n_or, n_until, n_suffix, n_suffix_next}
+use Rattle.table.specs.Choice.{pick}
+use Rattle.table.specs.Kinds.{class_of}
+use Rattle.table.specs.Trees.{boolean_at}
+use Rattle.table.specs.Subset.{Subset, InSubset}
 use Rattle.table.proofs.Laws.Spans.{every}
 use Rattle.table.proofs.Laws.Choices.{picked, passed}
-use Rattle.table.proofs.Facts.Trees.{falls}
 use Rattle.table.specs.declared.Counts.{Counts}
 use Rattle.table.specs.declared.kinds.Class.{Class}
 use Rattle.table.specs.declared.kinds.Class.TheVariants.{Boolean as IsBoolean, Sequence as IsSequence, Property as IsProperty, Strong, Unknown}

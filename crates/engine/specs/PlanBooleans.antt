@@ -1,10 +1,10 @@
 -- The Boolean rows of a plan are what the truths ask for.
-use Rattle.std.specs.Prelude.{ℕ, suc, ◌≤◌, ◌<◌, ◌≡◌, refl, Bool, true, false, ◌&&◌, List, T, ltb}
+use Rattle.std.specs.Prelude.{ℕ, ◌<◌, ◌≡◌, true, ◌&&◌, List, T, ltb}
 use native.Mathlib.Omega.{arith}
 use Rattle.std.proofs.Math.Decide.{dec_lt}
 use Rattle.std.proofs.Common.{sym, ◌∙◌, subst}
 use Rattle.std.proofs.Math.Path.{ap}
-use Rattle.psl.specs.Booleans.{Boolean, bit}
+use Rattle.psl.specs.Booleans.{bit}
 use Rattle.psl.specs.Tells.{tells_lt, tells_and, tells_value, tells_true, true_tells}
 use Rattle.table.specs.Choice.{pick}
 use Rattle.table.specs.Kinds.{class_of, fields_of, takes_of, class_ok, in_b}
@@ -18,7 +18,7 @@ use Rattle.table.specs.declared.kinds.Holds.{Holds}
 use Rattle.table.specs.declared.kinds.Holds.TheVariants.{Nothing, Signal, B, Q, F}
 use Rattle.accepted.specs.Shapes.{implied, by_implied}
 use Rattle.accepted.specs.Sequences.{known}
-use Rattle.engine.specs.Reads.{kind_of, a_of, b_of}
+use Rattle.engine.specs.Reads.{kind_of, a_of}
 use Rattle.engine.specs.Planned.{Planned}
 use Rattle.engine.specs.Truths.{BooleanRow, reads_true, reads_false, reads_signal, reads_not, reads_and, reads_or, BooleanRows}
 use Rattle.engine.specs.NodeView.{in_subset, in_subset_so}

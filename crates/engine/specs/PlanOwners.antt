@@ -1,9 +1,9 @@
 -- Each row of a sequence is used by the weak row over it, or by a left side; so the cells expected next stand in the rows of left sides.
-use Rattle.std.specs.Prelude.{ℕ, zero, suc, ◌-◌, ◌≤◌, ◌<◌, ◌≡◌, refl, Bool, true, false, ◌||◌, List, ◌⊎◌, T}
+use Rattle.std.specs.Prelude.{ℕ, zero, suc, ◌-◌, ◌<◌, ◌≡◌, refl, Bool, true, false, List, ◌⊎◌, T}
 use Rattle.std.proofs.Common.{arith, sym, ◌∙◌, subst, inl, inr, ⊎_elim}
 use Rattle.std.proofs.Math.Path.{ap}
 use Rattle.psl.specs.Booleans.{Letter, bit}
-use Rattle.psl.specs.Tells.{tells_value, tells_or, tells_true, tells_no}
+use Rattle.psl.specs.Tells.{tells_value, tells_or, tells_true}
 use Rattle.table.specs.Subset.{Subset}
 use Rattle.table.specs.declared.Counts.{Counts}
 use Rattle.table.specs.Choice.{pick}
@@ -12,13 +12,12 @@ use Rattle.lanes.specs.Rows.{Row, r_bool, r_then, r_fuse, r_alt, r_star, r_plus,
 use Rattle.lanes.specs.Expected.{Table}
 use Rattle.lanes.specs.Uses.{Use}
 use Rattle.lanes.specs.DownPass.{Work, give, LandsBy}
-use Rattle.lanes.specs.Ideal.{part_of, given, whole_work, whole_right}
+use Rattle.lanes.specs.Ideal.{part_of, whole_work, whole_right}
 use Rattle.lanes.specs.Whole.{after_only}
 use Rattle.engine.specs.Reads.{kind_of}
 use Rattle.engine.specs.Planned.{Planned, InSequence, OverLeft, StandsIn, in_a, in_b}
 use Rattle.engine.specs.PlanView as W
 use Rattle.engine.specs.PlanSequences.{SequenceRow, is_then, is_fuse, is_alt, is_star, is_plus, sequence_row_lem, has_stands}
-use Rattle.engine.specs.PlanSides.{both_no}
 use Rattle.engine.specs.PlanWeaks.{weak_users}
 use Rattle.engine.specs.PlanPass.{row_left}
 

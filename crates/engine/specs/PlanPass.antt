@@ -1,10 +1,10 @@
 -- On each sample the property rows, what is kept and the left sides that end are what the pass over the property rows asks for.
-use Rattle.std.specs.Prelude.{ℕ, ◌≤◌, ◌<◌, ◌≡◌, refl, Bool, true, false, not, ◌&&◌, ◌||◌, List, T, eqb, leb}
+use Rattle.std.specs.Prelude.{ℕ, ◌≤◌, ◌<◌, ◌≡◌, refl, Bool, true, false, ◌&&◌, ◌||◌, List, T, eqb, leb}
 use Rattle.std.proofs.Common.{arith, sym, ◌∙◌, ap₂, subst, ⊎_elim}
 use Rattle.std.proofs.Math.Decide.{dec_lt}
 use Rattle.std.proofs.Math.Path.{ap}
 use Rattle.std.specs.Int.Bits.{bit_or}
-use Rattle.psl.specs.Booleans.{Boolean, bit, holds, sample}
+use Rattle.psl.specs.Booleans.{bit, holds, sample}
 use Rattle.psl.proofs.Marks.Automaton.{nullable}
 use Rattle.psl.specs.Tells.{tells_lt, tells_eq, tells_and, tells_value, tells_true, true_tells, tells_no}
 use Rattle.psl.proofs.Model.Nodes.{Node}
@@ -16,7 +16,7 @@ use Rattle.table.specs.declared.Counts.{Counts}
 use Rattle.accepted.specs.Rows.{shape_of, made}
 use Rattle.lanes.specs.Rows.{Row, r_bool, r_left}
 use Rattle.lanes.specs.Expected.{Table, sequence_of}
-use Rattle.lanes.specs.UpPass.{Part, operand, operand_by, cell_part}
+use Rattle.lanes.specs.UpPass.{Part, operand_by, cell_part}
 use Rattle.lanes.specs.Ideal.{part_of}
 use Rattle.lanes.specs.State.{Kept, entered}
 use Rattle.lanes.specs.Cycle.{hit, hit_by, left_empty}

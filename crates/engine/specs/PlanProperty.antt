@@ -1,9 +1,9 @@
 -- The nodes of a plan stand for the property that the table's root reads as.
-use Rattle.std.specs.Prelude.{ℕ, zero, suc, ◌≤◌, ◌<◌, ◌≡◌, refl, Bool, true, false, List, T}
+use Rattle.std.specs.Prelude.{ℕ, zero, suc, ◌<◌, ◌≡◌, refl, true, false, List, T}
 use native.Mathlib.Omega.{arith}
 use Rattle.std.proofs.Math.Path.{sym, ap, ap₂}
 use Rattle.std.proofs.Common.{◌∙◌, subst}
-use Rattle.psl.specs.Properties.{Property, boolean, weak, both, next, if_else, implies, or_else, always, until, suffix, suffix_next, never}
+use Rattle.psl.specs.Properties.{weak, both, next, if_else, implies, or_else, always, until, suffix, suffix_next, never}
 use Rattle.psl.proofs.Model.Nodes.{Node, build, prop_at, prop_at_is}
 use Rattle.table.specs.Choice.{pick}
 use Rattle.table.specs.Kinds.{class_of, fields_of, takes_of, class_ok, in_f}

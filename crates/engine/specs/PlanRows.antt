@@ -1,39 +1,34 @@
 -- The property rows of a plan are what the pass over them asks for.
-use Rattle.std.specs.Prelude.{ℕ, suc, ◌≤◌, ◌<◌, ◌≡◌, refl, Bool, false, not, ◌&&◌, ◌||◌, List, ◌⊎◌, T, eqb, ltb}
-use Rattle.std.proofs.Common.{arith, sym, ◌∙◌, ap, ap₂, subst, inl, inr, T_not}
+use Rattle.std.specs.Prelude.{ℕ, ◌<◌, ◌≡◌, refl, Bool, false, not, ◌&&◌, ◌||◌, List, ◌⊎◌, T, ltb}
+use Rattle.std.proofs.Common.{arith, sym, ◌∙◌, ap₂, subst, inl, inr}
 use Rattle.std.proofs.Math.Decide.{dec_lt}
-use Rattle.std.proofs.Math.Bool.{true, and-true, or-false}
+use Rattle.std.proofs.Math.Bool.{true, and-true}
 use Rattle.std.proofs.Math.Logic.{⊎_elim}
 use Rattle.std.specs.Int.Bits.{bit_or}
-use Rattle.psl.specs.Booleans.{Boolean, constant, bit, holds, sample}
+use Rattle.psl.specs.Booleans.{bit}
 use Rattle.psl.proofs.Marks.Automaton.{nullable}
-use Rattle.psl.specs.Tells.{Tells, does, doesnt, tells_lt, tells_eq, tells_and, tells_or, tells_not, tells_value, tells_true, true_tells, tells_no}
-use Rattle.psl.proofs.Model.Nodes.{Node, n_bool, n_weak}
-use Rattle.psl.proofs.Model.Monitor as M
+use Rattle.psl.specs.Tells.{Tells, tells_lt, tells_and, tells_or, tells_not, tells_value, tells_true, true_tells}
+use Rattle.psl.proofs.Model.Nodes.{Node}
 use Rattle.words.specs.Bits.{bit_or_lem}
 use Rattle.table.specs.Choice.{pick}
-use Rattle.table.specs.Kinds.{class_of, fields_of, takes_of}
+use Rattle.table.specs.Kinds.{fields_of, takes_of}
 use Rattle.table.specs.Trees.{boolean_at}
-use Rattle.table.specs.Subset.{Subset, kind_at, Field, field_a, field_b, field_c, holds_in, value_at, IsOperand}
+use Rattle.table.specs.Subset.{Subset, Field, field_a, field_b, field_c, holds_in, value_at, IsOperand}
 use Rattle.table.proofs.Facts.Trees as Tree
 use Rattle.table.specs.declared.Counts.{Counts}
-use Rattle.accepted.specs.Rows.{shape_of, made}
-use Rattle.lanes.specs.Rows.{Row, r_bool, r_left}
-use Rattle.lanes.specs.Expected.{Table, sequence_of}
-use Rattle.lanes.specs.UpPass.{Part, operand}
+use Rattle.lanes.specs.Rows.{Row}
+use Rattle.lanes.specs.Expected.{sequence_of}
+use Rattle.lanes.specs.UpPass.{Part}
 use Rattle.lanes.specs.Uses.{ended_lanes}
 use Rattle.lanes.specs.DownPass.{left_use}
-use Rattle.lanes.specs.State.{Kept, entered}
-use Rattle.lanes.specs.Cycle.{hit, hit_by}
-use Rattle.engine.specs.Reads.{kind_of, a_of, b_of, c_of}
+use Rattle.engine.specs.Reads.{kind_of, a_of}
 use Rattle.engine.specs.Planned.{Planned, OverLeft}
-use Rattle.engine.specs.Truths.{Truth, OnlyIn}
-use Rattle.engine.specs.Sides.{SidesUp, OverSides, first_part}
+use Rattle.engine.specs.Truths.{Truth}
 use Rattle.engine.specs.declared.properties.Letter.{Letter}
-use Rattle.engine.specs.Properties.{Inert, inert_boolean, inert_weak, Keeping, keeping_next, Operand, Condition, PropertyRow, reads_both, reads_next, reads_if, reads_implies, reads_or, reads_always, reads_until, reads_suffix, reads_suffix_next, reads_never, PropertyRows}
+use Rattle.engine.specs.Properties.{Inert, inert_boolean, inert_weak, Operand, Condition, PropertyRow, reads_both, reads_next, reads_if, reads_implies, reads_or, reads_always, reads_until, reads_suffix, reads_suffix_next, reads_never}
 use Rattle.engine.specs.NodeView.{KindCase, a_boolean, a_sequence, k_weak, k_both, k_next, k_if, k_implies, k_or, k_always, k_until, k_suffix, k_suffix_next, k_never, node_by, case_of, node_out, node_boolean, node_sequence}
 use Rattle.engine.specs.PlanView as W
-use Rattle.engine.specs.PlanProperty.{Sub, sub, IsF}
+use Rattle.engine.specs.PlanProperty.{sub, IsF}
 use Rattle.engine.specs.PlanBooleans.{is_boolean, boolean_is, boolean_operand, IsB}
 
 -- What ends a left side: an attempt under way, or one that begins and can end at once.

@@ -3,7 +3,7 @@ use Rattle.std.specs.Prelude.{ℕ, ◌≤◌, ◌<◌, ◌≡◌, Bool, true, fa
 use Rattle.std.proofs.Common.{arith, sym, ◌∙◌, subst, inl, inr, ⊎_elim, leb-true, le-leb}
 use Rattle.std.proofs.Math.Decide.{dec_lt}
 use Rattle.std.proofs.Math.Path.{refl}
-use Rattle.psl.specs.Booleans.{Boolean, bit}
+use Rattle.psl.specs.Booleans.{bit}
 use Rattle.psl.specs.Tells.{tells_or, tells_value, tells_true}
 use Rattle.table.specs.Choice.{pick}
 use Rattle.table.specs.Kinds.{fields_of, takes_of}

@@ -1,6 +1,6 @@
 -- What is kept between samples stands only where it can: held bits at rows that keep, expected cells at cells inside left sides.
-use Rattle.std.specs.Prelude.{ℕ, ◌≤◌, ◌<◌, ◌≡◌, refl, Bool, ◌&&◌, ◌||◌, T}
-use Rattle.std.proofs.Common.{arith, sym, ◌∙◌, subst}
+use Rattle.std.specs.Prelude.{ℕ, ◌≡◌, refl, Bool, T}
+use Rattle.std.proofs.Common.{sym, ◌∙◌, subst}
 use Rattle.std.proofs.Math.Path.{ap}
 use Rattle.std.proofs.Math.Bool.{true, false}
 use Rattle.psl.specs.Booleans.{sample}
@@ -9,11 +9,11 @@ use Rattle.psl.proofs.Model.Nodes.{Node, n_bool, n_weak, n_never, n_both, n_next
 use Rattle.psl.proofs.Model.Step.{keeps}
 use Rattle.lanes.specs.Rows.{Row, r_left, CellAt}
 use Rattle.lanes.specs.Expected.{Table}
-use Rattle.lanes.specs.DownPass.{left_use, give}
+use Rattle.lanes.specs.DownPass.{give}
 use Rattle.lanes.specs.Ideal.{part_of, whole_work}
 use Rattle.lanes.specs.Whole.{after_only}
 use Rattle.lanes.specs.State.{Kept, nothing}
-use Rattle.lanes.specs.Cycle.{held_next, work, kept_next, enters, begins, hit}
+use Rattle.lanes.specs.Cycle.{held_next, work, kept_next, enters}
 use Rattle.engine.specs.Properties.{Keeping, keeping_next, keeping_always, keeping_until, keeping_suffix_next, keeping_never}
 
 pub record InPlace (row : ℕ → Row) (node : ℕ → Node) (k : Kept) : Type 0 where

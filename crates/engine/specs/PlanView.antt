@@ -1,20 +1,17 @@
 -- From a plan of an accepted table to the rows and nodes that the passes and the model see.
-use Rattle.std.specs.Prelude.{ℕ, zero, suc, ◌+◌, ◌≤◌, ◌<◌, ◌≡◌, Bool, false, not, ◌&&◌, ◌||◌, List, ◌⊎◌, T, eqb, ltb}
-use Rattle.std.proofs.Common.{arith, sym, ◌∙◌, ap, ap₂, inl, inr, ⊎_elim, T_not}
-use Rattle.std.proofs.Math.Decide.{dec_lt, dec_le}
+use Rattle.std.specs.Prelude.{ℕ, ◌<◌, ◌≡◌, Bool, false, not, ◌&&◌, List, ◌⊎◌, T, ltb}
+use Rattle.std.proofs.Common.{arith, sym, ◌∙◌, inl, inr, T_not}
 use Rattle.std.proofs.Math.Path.{refl, subst}
 use Rattle.std.proofs.Math.Bool.{true}
-use Rattle.psl.specs.Booleans.{Boolean, constant, bit}
-use Rattle.psl.specs.Sequences.{Sequence}
-use Rattle.psl.specs.Properties.{Property, boolean, weak, both, next, if_else, implies, or_else, always, until, suffix, suffix_next, never}
+use Rattle.psl.specs.Booleans.{Boolean}
 use Rattle.psl.proofs.Model.Monitor as M
 use Rattle.psl.specs.Tells.{tells_lt, tells_and, tells_true, true_tells}
-use Rattle.psl.proofs.Model.Nodes.{Node, n_bool, n_weak, n_never, n_both, n_next, n_always, n_if_else, n_implies, n_or, n_until, n_suffix, n_suffix_next, Falls, build, prop_at, prop_at_is}
-use Rattle.table.specs.Choice.{pick, within}
+use Rattle.psl.proofs.Model.Nodes.{Node, Falls}
+use Rattle.table.specs.Choice.{pick}
 use Rattle.table.specs.Kinds.{class_of, fields_of, takes_of, in_f}
 use Rattle.table.specs.Rows.{row_at}
-use Rattle.table.specs.Trees.{boolean_at, sequence_at, property_at}
-use Rattle.table.specs.Subset.{Subset, kind_at, Field, field_a, field_b, field_c, InSubset, IsOperand, holds_at, value_at}
+use Rattle.table.specs.Trees.{boolean_at, sequence_at}
+use Rattle.table.specs.Subset.{Subset, kind_at, Field, field_a, field_b, field_c, IsOperand, holds_at, value_at}
 use Rattle.table.proofs.Laws.Spans.{every}
 use Rattle.table.proofs.Facts.Trees as Tree
 use Rattle.table.specs.declared.Counts.{Counts}
@@ -22,11 +19,10 @@ use Rattle.table.specs.declared.kinds.Holds.{Holds}
 use Rattle.table.specs.declared.kinds.Holds.TheVariants.{Nothing, Signal, B, Q, F}
 use Rattle.accepted.specs.Rows.{row_of, shape_of, made, h_bool, h_then, h_fuse, h_alt, h_star, h_plus, h_weak, h_left, h_rest}
 use Rattle.accepted.specs.Rows.{Shape as RowShape}
-use Rattle.accepted.specs.Shapes.{implied, by_implied, is_q, has_a, has_b, has_field, field_has, shape_a, shape_b, seq_s, shape_seq, seq_shape}
-use Rattle.accepted.specs.Sequences.{known, row_in, row_low}
+use Rattle.accepted.specs.Shapes.{implied, by_implied, is_q, has_a, has_b, has_field, field_has, shape_a, shape_b, seq_s, seq_shape}
+use Rattle.accepted.specs.Sequences.{known, row_in}
 use Rattle.accepted.specs.WeakCells.{table, row_at_lem, read_same, weak_kind}
-use Rattle.lanes.specs.Rows.{Row, r_bool, r_then, r_fuse, r_alt, r_star, r_plus, r_weak, r_left, r_rest, Has, IsSequence, read_within}
-use Rattle.lanes.specs.Rows as R
+use Rattle.lanes.specs.Rows.{Row, r_weak, r_left, r_rest, Has, IsSequence}
 use Rattle.lanes.specs.Expected.{Table, sequence_of}
 use Rattle.lanes.specs.State.{Shape, of_weak, of_never, of_suffix, of_suffix_next, of_other}
 use Rattle.engine.specs.Reads.{kind_of, a_of, b_of, c_of}

@@ -1,5 +1,5 @@
 -- The plan of a property: the rows that it reaches, by what a cycle does with them.
-use Rattle.std.specs.Prelude.{ℕ, ◌≤◌, ◌<◌, ◌≡◌, Bool, true, false, ◌&&◌, ◌||◌, not, List, ◌⊎◌, ltb, leb}
+use Rattle.std.specs.Prelude.{ℕ, ◌≤◌, ◌<◌, ◌≡◌, Bool, true, false, ◌&&◌, ◌||◌, List, ◌⊎◌, ltb, leb}
 use Rattle.psl.specs.Booleans.{bit}
 use Rattle.table.specs.Subset.{Field, IsOperand, holds_at, value_at}
 use Rattle.engine.specs.Reads.{kind_of, a_of, b_of}

@@ -1,5 +1,5 @@
 -- The fields of a row, and which bytes hold the rows of a set.
-use Rattle.std.specs.Prelude.{ℕ, ◌+◌, ◌*◌, ◌<◌, ◌≡◌, Bool, true, List, length}
+use Rattle.std.specs.Prelude.{ℕ, ◌+◌, ◌*◌, ◌<◌, ◌≡◌, true, List, length}
 use Rattle.psl.specs.Booleans.{bit}
 use Rattle.table.specs.Rows.{row_at}
 

@@ -15,7 +15,6 @@ use Rattle.lanes.specs.State.{Kept}
 use Rattle.words.specs.Bits.{same_bits}
 use Rattle.words.specs.Unique.{same_number}
 use Rattle.engine.specs.declared.plan.Plan.{Plan}
-use Rattle.engine.specs.declared.cycle.Expected.{Expected}
 use Rattle.engine.specs.declared.cycle.Outcome.{Outcome}
 use Rattle.engine.specs.Reads.{kind_of, a_of}
 use Rattle.engine.specs.Planned.{Planned, InSequence, OverLeft, StandsIn, in_a, in_b}

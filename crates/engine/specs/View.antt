@@ -1,22 +1,15 @@
 -- A property's rows as the passes see them: those of the table that the property reaches, and nothing else.
-use Prim.Native.Nat.{ℕ, zero, suc, ◌+◌, ◌≤◌, ◌<◌}
-use Rattle.std.proofs.Common.{arith, sym, ◌∙◌, subst, inl, inr, ⊎_elim}
-use Rattle.std.proofs.Math.Decide.{dec_lt}
-use Rattle.std.specs.Prelude.{◌≡◌, Bool, ◌&&◌, List, ◌⊎◌, T, eqb, ltb}
+use Prim.Native.Nat.{ℕ, zero, suc, ◌≤◌}
+use Rattle.std.proofs.Common.{arith, ◌∙◌}
+use Rattle.std.specs.Prelude.{◌≡◌, Bool, List}
 use Rattle.std.proofs.Math.Path.{refl, ap}
 use Rattle.std.proofs.Math.Bool.{true, false}
-use Rattle.psl.specs.Booleans.{Boolean, constant, bit}
-use Rattle.psl.specs.Tells.{Tells, does, doesnt, tells_value}
-use Rattle.psl.proofs.Marks.Masks.{cells}
-use Rattle.table.specs.Rows.{row_at}
-use Rattle.table.specs.Trees.{boolean_at, sequence_at}
-use Rattle.table.specs.Subset.{Subset, kind_at}
+use Rattle.table.specs.Subset.{Subset}
 use Rattle.table.specs.declared.Counts.{Counts}
-use Rattle.lanes.specs.Rows.{Row, r_bool, r_then, r_fuse, r_alt, r_star, r_plus, r_weak, r_left, r_rest, Has, IsOperand, IsSequence, Sound, build, read_within}
-use Rattle.lanes.specs.Expected.{Table, sequence_of}
+use Rattle.lanes.specs.Rows.{Row, r_bool, r_then, r_fuse, r_alt, r_star, r_plus, r_weak, r_left, r_rest, Has, IsSequence, Sound, build, read_within}
+use Rattle.lanes.specs.Expected.{Table}
 use Rattle.accepted.specs.Rows.{row_of}
-use Rattle.accepted.specs.WeakCells.{table, row_at_lem}
-use Rattle.engine.specs.Reads.{kind_of, a_of, b_of}
+use Rattle.accepted.specs.WeakCells.{table}
 
 -- The row of n where it is reached.
 abbrev pub kept : Bool → Row → Row

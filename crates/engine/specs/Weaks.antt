@@ -1,11 +1,11 @@
 -- The rows of weak sequences: which lanes end each on a sample, and which lead to each cell. Lanes 0 to 6 of the passes.
-use Rattle.std.specs.Prelude.{ℕ, zero, suc, ◌+◌, ◌-◌, ◌*◌, ◌≤◌, ◌<◌, ◌≡◌, Bool, true, false, ◌&&◌, List, eqb, get_or}
+use Rattle.std.specs.Prelude.{ℕ, zero, suc, ◌+◌, ◌-◌, ◌*◌, ◌<◌, ◌≡◌, Bool, true, false, ◌&&◌, List, eqb, get_or}
 use Rattle.psl.specs.Booleans.{Boolean, bit, holds, sample}
 use Rattle.lanes.specs.Rows.{Row, r_bool, r_then, r_fuse, r_alt, r_star, r_plus, r_weak}
 use Rattle.lanes.specs.Expected.{Table}
 use Rattle.lanes.specs.UpPass.{Part, operand}
 use Rattle.lanes.specs.Uses.{ended_lanes}
-use Rattle.lanes.specs.DownPass.{Work, weak_use}
+use Rattle.lanes.specs.DownPass.{weak_use}
 use Rattle.lanes.specs.Ideal.{part_of, whole_work}
 use Rattle.engine.specs.Reads.{kind_of, a_of, b_of}
 

@@ -2,7 +2,7 @@
 -- Nothing here has to be believed.
 use Prim.Native.Nat.{ℕ, suc, ◌<◌}
 use Rattle.std.proofs.Common.{arith, ◌∙◌}
-use Rattle.std.specs.Prelude.{◌≡◌, not, ◌&&◌, List, [], ◌∷◌, ◌++◌, length}
+use Rattle.std.specs.Prelude.{◌≡◌, ◌&&◌, List, [], ◌∷◌, ◌++◌, length}
 use Rattle.std.proofs.Math.Path.{refl, sym, ap, ap₂, subst, fun_ext}
 use Rattle.std.proofs.Math.Bool.{Bool, false}
 use Rattle.std.proofs.Math.Dec.{eqb}

@@ -1,13 +1,11 @@
 -- What the engine keeps against what the model keeps: after each sample the one represents the other. Nothing here has to be believed.
 use Rattle.std.specs.Prelude.{ℕ, ◌<◌, ◌^◌, ◌≡◌, refl, Bool, true, false, ◌||◌, T}
 use Rattle.std.proofs.Common.{arith, sym, ◌∙◌, ap, ap₂, subst}
-use Rattle.psl.specs.Booleans.{sample}
 use Rattle.psl.specs.Sequences.{Sequence, cell, then, fuse, alt, star, plus}
 use Rattle.psl.proofs.Marks.Automaton.{Marks, empty, join, first}
 use Rattle.psl.proofs.Marks.Feed as Feed
 use Rattle.psl.proofs.Marks.Masks.{cells, mask, unmask}
 use Rattle.psl.proofs.Marks.Linear.{two}
-use Rattle.psl.specs.Tells.{any}
 use Rattle.psl.proofs.Model.Nodes.{Node, n_weak, n_never, n_suffix, n_suffix_next}
 use Rattle.psl.proofs.Model.Auto.{feed}
 use Rattle.psl.proofs.Model.Machine.{machine, back}

@@ -8,7 +8,7 @@ use Rattle.psl.proofs.Marks.Automaton.{Marks, empty, step}
 use Rattle.psl.proofs.Marks.Feed as Feed
 use Rattle.psl.proofs.Marks.Masks.{cells, mask}
 use Rattle.psl.proofs.Marks.Linear.{step_empty, join_empty_r}
-use Rattle.psl.specs.Tells.{any, tells_any, tells_and, tells_value, tells_eq, tells_true, tells_no, tells_t}
+use Rattle.psl.specs.Tells.{tells_any, tells_and, tells_value, tells_eq, tells_true, tells_no, tells_t}
 use Rattle.psl.proofs.Model.Nodes.{Node, n_bool, n_weak, n_never, n_both, n_next, n_always, n_if_else, n_implies, n_or, n_until, n_suffix, n_suffix_next}
 use Rattle.psl.proofs.Model.Step.{keeps}
 use Rattle.psl.proofs.Model.Auto.{feed}

@@ -1,9 +1,9 @@
 -- What the finished downward pass has set, it has set for a cell. Nothing here has to be believed.
-use Rattle.std.specs.Prelude.{ℕ, suc, ◌≤◌, ◌<◌, ◌≡◌, refl, Bool, true, false, ◌⊎◌, T}
-use Rattle.std.proofs.Common.{arith, sym, ◌∙◌, ap, subst, inl, inr, ⊎_elim}
+use Rattle.std.specs.Prelude.{ℕ, suc, ◌≤◌, ◌≡◌, refl, Bool, true, false, T}
+use Rattle.std.proofs.Common.{arith, sym, ◌∙◌, ap, subst, ⊎_elim}
 use Rattle.std.proofs.Math.Decide.{dec_lt}
 use Rattle.psl.specs.Booleans.{Letter}
-use Rattle.lanes.specs.Rows.{Row, Has, CellAt}
+use Rattle.lanes.specs.Rows.{Row, CellAt}
 use Rattle.lanes.specs.Expected.{Table}
 use Rattle.lanes.specs.Uses.{Use}
 use Rattle.lanes.specs.DownPass.{Work, give}

@@ -1,4 +1,3 @@
-use lib.Count.{trailing_le}
 use Rattle.words.specs.Ends.{lowest_is}
 use Rattle.words.proofs.lowest.Goals as goal
 

@@ -1,5 +1,4 @@
 use Rattle.std.proofs.Common.{rules}
-use Rattle.engine.proofs.AnyOf.{any_of}
 use Rattle.engine.proofs.CyclePasses.{passes_cycle}
 use Rattle.engine.proofs.cycle.passes.Goals as goal
 

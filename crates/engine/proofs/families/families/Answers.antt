@@ -1,6 +1,5 @@
-use Rattle.std.proofs.Common.{arith, ◌-◌}
-use Rattle.engine.proofs.FamilyMoves.{all_start, all_turn}
-use Rattle.engine.specs.Families.{Moved}
+use Rattle.std.proofs.Common.{arith}
+use Rattle.engine.proofs.FamilyMoves.{all_turn}
 use Rattle.engine.proofs.families.families.Goals as goal
 
 pub loop-w-preserved : goal.loop-w-preserved

@@ -1,4 +1,4 @@
-use Rattle.std.proofs.Common.{inl, inr, refl, ℕ}
+use Rattle.std.proofs.Common.{inl, inr, refl}
 use Rattle.engine.specs.FamilySteps.{Lacks}
 use Rattle.engine.proofs.FamilyLaws.{lacks_more}
 use Rattle.engine.proofs.families.masked_high.Goals as goal

@@ -6,5 +6,5 @@ pub returns-then-top-lt128 : goal.returns-then-top-lt128
 returns-then-top-lt128 c = one_quiet _ _ _ _ _ c.if-old-eq0.true c.if-top-lt128.true
 
 pub returns : goal.returns
-returns c = 
+returns c =
     one_moved c.args.w c.args.all c.args.tops.now c.args.leads.now c.args.families.now _ _ (omega (arith, c.requires.0, c.requires.1)) c.turned.ensures c.family-next.ensures

@@ -1,7 +1,6 @@
 use Rattle.std.proofs.Common.{arith}
 use Rattle.words.specs.Walk.{turn_up}
-use Rattle.engine.specs.FamilySteps.{image_of}
-use Rattle.engine.proofs.FamilyMoves.{Walking, walk_start, walk_turn, walk_end}
+use Rattle.engine.proofs.FamilyMoves.{walk_turn}
 use Rattle.engine.proofs.families.walked.Goals as goal
 
 pub loop-left-preserved : goal.loop-left-preserved

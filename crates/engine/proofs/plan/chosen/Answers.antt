@@ -1,6 +1,5 @@
-use Rattle.std.proofs.Common.{arith, ◌-◌}
-use Rattle.engine.specs.Reached.{is_chosen}
-use Rattle.engine.proofs.ReachedLaws.{Chosen, chosen_start, chosen_turn, chosen_end}
+use Rattle.std.proofs.Common.{arith}
+use Rattle.engine.proofs.ReachedLaws.{chosen_turn, chosen_end}
 use Rattle.engine.proofs.plan.chosen.Goals as goal
 
 pub loop-n-preserved : goal.loop-n-preserved

@@ -1,4 +1,4 @@
-use Rattle.engine.proofs.ReachedLaws.{told, joined_none, joined_is}
+use Rattle.engine.proofs.ReachedLaws.{told, joined_is}
 use Rattle.engine.proofs.plan.joined.Goals as goal
 
 pub returns : goal.returns

@@ -1,4 +1,3 @@
-use Rattle.std.proofs.Common.{refl}
 use Rattle.engine.proofs.PlannedLaws.{plan_is}
 use Rattle.engine.proofs.plan.planned.Goals as goal
 

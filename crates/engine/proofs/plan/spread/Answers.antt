@@ -1,8 +1,5 @@
 use Rattle.std.proofs.Common.{arith, ◌+◌, ◌-◌, ◌≡◌}
-use Rattle.psl.specs.Booleans.{bit}
-use Rattle.table.specs.Subset.{Subset}
-use Rattle.table.specs.declared.Counts.{Counts}
-use Rattle.engine.proofs.ReachedLaws.{Sofar, sofar_at, spread_start, spread_turn, spread_end}
+use Rattle.engine.proofs.ReachedLaws.{sofar_at, spread_turn, spread_end}
 use Rattle.engine.proofs.plan.spread.Goals as goal
 
 pub loop-n-preserved : goal.loop-n-preserved

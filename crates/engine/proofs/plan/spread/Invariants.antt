@@ -1,4 +1,4 @@
-use Rattle.std.proofs.Common.{true, ℕ, ◌-◌, ◌<◌, ◌≡◌, ◌≤◌}
+use Rattle.std.proofs.Common.{true, ℕ, ◌<◌, ◌≡◌, ◌≤◌}
 use Rattle.psl.specs.Booleans.{bit}
 use Rattle.table.specs.Subset.{Subset}
 use Rattle.table.specs.declared.Counts.{Counts}

@@ -1,5 +1,5 @@
 use Rattle.std.proofs.Common.{rules}
-use Rattle.engine.proofs.RowLaws.{shift_some, held_none, held_some, held_all}
+use Rattle.engine.proofs.RowLaws.{held_some, held_all}
 use Rattle.engine.proofs.rows.held.Goals as goal
 
 pub returns-then-bytes-lt272 : goal.returns-then-bytes-lt272

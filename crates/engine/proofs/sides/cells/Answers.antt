@@ -1,7 +1,7 @@
 use Rattle.std.proofs.Common.{length-set}
-use Rattle.words.specs.Walk.{Left, turn_up, left_start, left_end}
+use Rattle.words.specs.Walk.{turn_up}
 use Rattle.engine.proofs.SideRowLaws.{some}
-use Rattle.engine.proofs.SideUpLaws.{CellIs, cells_turn}
+use Rattle.engine.proofs.SideUpLaws.{cells_turn}
 use Rattle.engine.proofs.sides.cells.Goals as goal
 
 pub loop-left-preserved : goal.loop-left-preserved

@@ -1,9 +1,6 @@
-use Rattle.lanes.specs.Rows.{Row}
-use Rattle.lanes.specs.Expected.{Table}
 use Rattle.words.specs.Walk.{turn_down}
-use Rattle.engine.specs.Sides.{SideRows, SideUsers, SidesEnter, LeftsFound}
 use Rattle.engine.proofs.SideRowLaws.{some}
-use Rattle.engine.proofs.SideDownLaws.{DownSafe, down_safe_start, down_safe_turn, only_in, DownSofar, down_start, down_turn, down_end}
+use Rattle.engine.proofs.SideDownLaws.{down_safe_turn, down_turn, down_end}
 use Rattle.engine.proofs.sides.downward.Goals as goal
 
 pub loop-left-preserved : goal.loop-left-preserved

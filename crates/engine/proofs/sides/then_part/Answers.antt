@@ -1,4 +1,4 @@
-use Rattle.engine.proofs.SideLaws.{then_first, then_last}
+use Rattle.engine.proofs.SideLaws.{then_last}
 use Rattle.engine.proofs.sides.then_part.Goals as goal
 
 pub returns : goal.returns

@@ -1,5 +1,4 @@
 use Rattle.std.proofs.Common.{sym, ◌∙◌}
-use Rattle.engine.specs.Sides.{one_if}
 use Rattle.engine.proofs.SideLaws.{seen_expected, seen_part}
 use Rattle.engine.proofs.sides.then_row.Goals as goal
 

@@ -1,8 +1,6 @@
-use Rattle.lanes.specs.Rows.{Row, Sound}
 use Rattle.words.specs.Walk.{turn_up}
-use Rattle.engine.specs.Sides.{SideRows, LiveWords, LiveAtCells}
 use Rattle.engine.proofs.SideRowLaws.{some}
-use Rattle.engine.proofs.SideUpLaws.{UpSafe, up_safe_start, up_safe_turn, over_sides, UpSofar, up_start, up_turn, up_end}
+use Rattle.engine.proofs.SideUpLaws.{up_safe_start, up_safe_turn, up_start, up_turn, up_end}
 use Rattle.engine.proofs.sides.upward.Goals as goal
 
 pub loop-left-init : goal.loop-left-init

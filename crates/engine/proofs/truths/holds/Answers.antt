@@ -1,7 +1,7 @@
 use Rattle.std.proofs.Common.{ap, eqb}
 use borrow.Author.Tests.{lt-ltb, le-ltb}
 use Rattle.table.proofs.Laws.Choices.{yes_so, no_so, said_ne}
-use Rattle.engine.specs.Truths.{compound_at, holds_at}
+use Rattle.engine.specs.Truths.{holds_at}
 use Rattle.engine.proofs.truths.holds.Goals as goal
 
 pub returns-then-kind-lt3 : goal.returns-then-kind-lt3

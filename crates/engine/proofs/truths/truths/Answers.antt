@@ -1,6 +1,5 @@
 use Rattle.std.proofs.Common.{arith}
-use Rattle.engine.proofs.TruthLaws.{Known, known_start, known_turn, known_end}
-use Rattle.words.specs.Walk.{turn_up}
+use Rattle.engine.proofs.TruthLaws.{known_turn, known_end}
 use Rattle.engine.proofs.truths.truths.Goals as goal
 
 pub loop-left-preserved : goal.loop-left-preserved

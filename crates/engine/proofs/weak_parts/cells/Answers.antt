@@ -1,5 +1,5 @@
 use Rattle.std.proofs.Common.{arith}
-use Rattle.engine.proofs.WeakUp.{CellsLeft, cells_start, cells_turn, cells_end}
+use Rattle.engine.proofs.WeakUp.{cells_turn}
 use Rattle.engine.proofs.weak_parts.cells.Goals as goal
 
 pub loop-left-preserved : goal.loop-left-preserved

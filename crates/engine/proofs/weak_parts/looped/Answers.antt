@@ -1,4 +1,4 @@
-use Rattle.engine.proofs.WeakUp.{loop_star, loop_plus}
+use Rattle.engine.proofs.WeakUp.{loop_star}
 use Rattle.engine.proofs.weak_parts.looped.Goals as goal
 
 pub returns-then-kind-eq19 : goal.returns-then-kind-eq19

@@ -1,5 +1,5 @@
 use Rattle.std.proofs.Common.{arith}
-use Rattle.engine.proofs.WeakUp.{UpLeft, up_start, up_turn, up_end}
+use Rattle.engine.proofs.WeakUp.{up_turn, up_end}
 use Rattle.engine.proofs.weak_parts.upward.Goals as goal
 
 pub loop-left-preserved : goal.loop-left-preserved

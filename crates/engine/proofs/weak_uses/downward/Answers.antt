@@ -1,6 +1,5 @@
 use Rattle.std.proofs.Common.{arith}
-use Rattle.engine.specs.WeakUses.{arrays}
-use Rattle.engine.proofs.WeakLoop.{DownLeft, down_start, down_turn, down_end}
+use Rattle.engine.proofs.WeakLoop.{down_start, down_turn, down_end}
 use Rattle.engine.proofs.weak_uses.downward.Goals as goal
 
 pub loop-left-init : goal.loop-left-init

@@ -1,4 +1,4 @@
-use Rattle.engine.proofs.WeakUse.{left_pair, left_loop}
+use Rattle.engine.proofs.WeakUse.{left_loop}
 use Rattle.engine.proofs.weak_uses.left.Goals as goal
 
 pub returns : goal.returns

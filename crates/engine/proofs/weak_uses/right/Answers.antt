@@ -1,4 +1,4 @@
-use Rattle.engine.proofs.WeakUse.{right_fuse, right_alt}
+use Rattle.engine.proofs.WeakUse.{right_fuse}
 use Rattle.engine.proofs.weak_uses.right.Goals as goal
 
 pub returns-then-kind-eq17 : goal.returns-then-kind-eq17

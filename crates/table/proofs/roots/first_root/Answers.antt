@@ -1,8 +1,6 @@
-use Rattle.std.proofs.Common.{arith, rules, sym, ◌-◌, ◌∙◌}
-use Rattle.table.specs.Roots.{root_rule}
-use Rattle.table.specs.First.{first_refusal}
-use Rattle.table.proofs.Laws.Runs.{left, first_start, first_next, first_here, first_end}
-use Rattle.table.specs.declared.Found.TheVariants.{Clear, At}
+use Rattle.std.proofs.Common.{arith, rules, sym, ◌∙◌}
+use Rattle.table.proofs.Laws.Runs.{first_start, first_next, first_here, first_end}
+use Rattle.table.specs.declared.Found.TheVariants.{At}
 use Rattle.table.proofs.roots.first_root.Goals as goal
 
 pub loop-i-init : goal.loop-i-init

@@ -1,6 +1,6 @@
 use Rattle.std.proofs.Common.{refl, sym, ◌∙◌}
 use Rattle.table.specs.Kinds.{class_of, takes_of, fields_by, fields_of, kind_rule}
-use Rattle.table.specs.Rows.{row_at, fields_ok, operands_ok, row_rule}
+use Rattle.table.specs.Rows.{fields_ok, operands_ok, row_rule}
 use Rattle.table.proofs.Laws.Choices.{yes_so, no_so, said_eq, said_ne}
 use Rattle.table.proofs.rows.row_rule.Goals as goal
 

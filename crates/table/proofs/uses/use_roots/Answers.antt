@@ -1,7 +1,5 @@
-use Rattle.std.proofs.Common.{arith, rules, sym, ◌-◌}
-use Rattle.table.specs.First.{sum_to}
+use Rattle.std.proofs.Common.{arith, rules, sym}
 use Rattle.table.specs.Uses.{one_if, root_use}
-use Rattle.table.specs.Passes.{Counted}
 use Rattle.table.proofs.Laws.Runs.{sum_next, sum_start}
 use Rattle.table.proofs.UseLaws.{counted_none, counted_then, counted_same}
 use Rattle.table.proofs.uses.use_roots.Goals as goal

@@ -1,8 +1,4 @@
-use Rattle.std.proofs.Common.{arith, rules, sym, ◌-◌}
-use Rattle.table.specs.Rows.{row_at}
-use Rattle.table.specs.First.{sum_to}
-use Rattle.table.specs.Uses.{uses_in_row}
-use Rattle.table.specs.Passes.{Counted}
+use Rattle.std.proofs.Common.{arith, rules, sym}
 use Rattle.table.proofs.Laws.Runs.{sum_next, sum_start}
 use Rattle.table.proofs.UseLaws.{counted_none, counted_then, counted_same}
 use Rattle.table.proofs.uses.use_rows.Goals as goal
