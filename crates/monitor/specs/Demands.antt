@@ -96,9 +96,9 @@ right_promised f w (pending n) r = (whole (Breaks f) (pending_unbroken r), whole
 pub no_stretch_both : (f : Property) (w : List ℕ) → Breaks f w → ¬ Secures f w
 no_stretch_both f w b s = never_both f w b s
 
-join : {t v u : List ℕ} {m between after : Monitor} → Chain t m v between → Chain t between u after → Chain t m (v ++ u) after
-join {t} {v} {u} {m} {between} c begun = subst (λ (w : List ℕ). Chain t m w between) (sym (append-nil v)) c
-join {t} {v} {between = between} {u} {m} c (given {v = u'} {after = after} {x = x} k s) = subst (λ (w : List ℕ). Chain t m w after) (append_assoc v u' (x ∷ [])) (given (join c k) s)
+join : {t v : List ℕ} {m between : Monitor} {u : List ℕ} {after : Monitor} → Chain t m v between → Chain t between u after → Chain t m (v ++ u) after
+join {t} {v} {m} {between} c begun = subst (λ (w : List ℕ). Chain t m w between) (sym (append-nil v)) c
+join {t} {v} {m} c (given {v = u'} {after = after} {x = x} k s) = subst (λ (w : List ℕ). Chain t m w after) (append_assoc v u' (x ∷ [])) (given (join c k) s)
 join c (turned_away k s) = turned_away (join c k) s
 
 -- ---- OF A MONITOR m THAT WAS OPENED for property number `property` of the table t
