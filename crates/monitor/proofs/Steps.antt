@@ -15,7 +15,7 @@ use Rattle.monitor.specs.declared.Verdict.TheVariants.{Broken, Settled, Pending}
 use Rattle.monitor.specs.declared.Monitor.{Monitor}
 use Rattle.monitor.specs.declared.Going.TheVariants.{Over, After}
 use Rattle.monitor.specs.Opens.{count_limit}
-use Rattle.monitor.specs.Follows.{verdict_of, signals_of, Undeclared, going_of, Advances, DeclaredStep, DeclaredIs, StepIs}
+use Rattle.monitor.specs.Follows.{verdict_of, Undeclared, going_of, Advances, DeclaredStep, DeclaredIs, StepIs}
 
 -- the test tells whether the sample is undeclared
 pub sample_tells : (x signals at : ℕ) {r : Bool} → signals ≡ at → Tells (HasFrom x signals) r → Tells (HasFrom x at) r

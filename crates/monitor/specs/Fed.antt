@@ -1,6 +1,6 @@
 -- WHY THE DEMANDS HOLD: what stands in a monitor that was opened on an accepted table and fed samples one by one. Nobody has to believe it: opening gives it
 -- (`fed_opened`), a step keeps it (`fed_granted`, `refused_stays`), and what follows of the answers is in Demands, which does not name it.
-use Rattle.std.specs.Prelude.{ℕ, ◌≤◌, ◌<◌, ◌≡◌, refl, List, [], ◌∷◌, ◌++◌, length}
+use Rattle.std.specs.Prelude.{ℕ, ◌<◌, ◌≡◌, refl, List, [], ◌∷◌, ◌++◌, length}
 use Rattle.std.proofs.Common.{arith, sym, ◌∙◌, ap, subst}
 use Rattle.std.proofs.Math.Decide.{dec_lt}
 use Rattle.psl.specs.Tells.{tells_dec}
@@ -16,7 +16,6 @@ use Rattle.table.specs.Check.{table_reply}
 use Rattle.table.specs.Subset.{Layout}
 use Rattle.table.proofs.Facts.Accepted.{granted_subset}
 use Rattle.table.specs.declared.Counts.{Counts}
-use Rattle.words.specs.Sets.{HasFrom}
 use Rattle.words.specs.Ends.{has_from}
 use Rattle.engine.specs.Goes.{goes_on}
 use Rattle.monitor.specs.declared.Monitor.{Monitor}

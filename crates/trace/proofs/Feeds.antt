@@ -4,14 +4,13 @@ use native.Mathlib.Omega.{arith}
 use mathlib.Core.List.{List}
 use mathlib.Core.Path.{◌≡◌, refl, sym, ◌∙◌, ap, subst}
 use Rattle.psl.specs.Verdicts as Psl
-use Rattle.table.specs.Reply.{Reply, refused, granted, not_both, granted_one, refused_one}
+use Rattle.table.specs.Reply.{Reply, refused, granted, not_both, refused_one}
 use Rattle.table.specs.Check.{checked_reply}
 use Rattle.table.specs.declared.Counts.{Counts}
 use Rattle.table.specs.declared.Refusal.{Refusal}
 use Rattle.table.specs.declared.Checked.{Checked}
 use Rattle.table.specs.declared.Checked.TheVariants as Table
 use Rattle.monitor.specs.declared.Verdict.{Verdict}
-use Rattle.monitor.specs.declared.Answer.{Answer}
 use Rattle.monitor.specs.declared.Monitor.{Monitor}
 use Rattle.monitor.specs.Opens.{OpenIs, no_table, no_property, opened}
 use Rattle.monitor.specs.Follows.{verdict_of, signals_of, StepIs}

@@ -1,8 +1,8 @@
 -- What the answer of the check means, clause by clause: `file_reply` is exactly the answer that document 01 gives.
-use Rattle.std.specs.Prelude.{ℕ, zero, suc, ◌+◌, ◌*◌, ◌^◌, ◌≤◌, ◌<◌, Bool, true, false, cond, List, ◌≡◌, refl, leb, length}
-use Rattle.std.proofs.Common.{arith, sym, ap, subst, leb→le, le→leb, le-leb}
+use Rattle.std.specs.Prelude.{ℕ, zero, suc, ◌+◌, ◌*◌, ◌≤◌, ◌<◌, Bool, true, false, cond, List, ◌≡◌, refl, leb, length}
+use Rattle.std.proofs.Common.{arith, sym, ap, subst, leb→le, le→leb}
 use Rattle.std.proofs.Math.Decide.{dec_lt}
-use Rattle.psl.specs.Tells.{Tells, does, doesnt, tells_and, tells_iff, tells_true, tells_eq, tells_t}
+use Rattle.psl.specs.Tells.{Tells, does, doesnt, tells_and, tells_iff, tells_eq, tells_t}
 use Rattle.table.specs.Reply.{Reply, refused, granted, not_both, granted_one}
 use Rattle.words.specs.Sets.{HasFrom}
 use Rattle.words.specs.Ends.{has_from}
