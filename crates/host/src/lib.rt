@@ -1,4 +1,4 @@
-// For a host in C: numbers and byte slices in, one number out.
+// For a host in C: numbers and byte slices in, one number out. The exports themselves are those of `host_c`.
 
 #![tactic(auto)]
 
@@ -39,9 +39,8 @@ fn table_answer(checked: Checked) -> u64
     refusal_number(refusal)
 }
 
-// uint64_t check(const uint8_t *table, size_t len)
-#[unsafe(no_mangle)]
-pub extern "C" fn check(table: &[u8]) -> u64
+// The check's answer.
+pub fn check(table: &[u8]) -> u64
     ensures { result ≡ check_number (table_reply table.now) }
 {
     table_answer(table::check(table))
@@ -68,9 +67,8 @@ pub fn answer_number(answer: Answer) -> u64
     }
 }
 
-// uint64_t judge(const uint8_t *table, size_t table_len, const uint8_t *trace, size_t trace_len, uint32_t property)
-#[unsafe(no_mangle)]
-pub extern "C" fn judge(table: &[u8], trace: &[u8], property: u32) -> u64
+// The judge's answer.
+pub fn judge(table: &[u8], trace: &[u8], property: u32) -> u64
     ensures { JudgedNumber table.now trace.now property result }
 {
     answer_number(trace::judge(table, trace, property))
