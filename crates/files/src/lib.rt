@@ -3,10 +3,20 @@
 #![tactic(auto)]
 
 ghost use Rattle.std.specs.Prelude.{◌≡◌, length};
+ghost use Rattle.std.specs.Io.{ReadsAtMost};
 ghost use Rattle.io.specs.Counts.{IsPrefixLen};
 
-use libc::{EIO, STDIN_FILENO};
+use std::fs::File;
+use std::io;
+use std::io::Read;
+use std::rt::Files;
+use std::str::from_utf8;
 use trace::Header;
+
+// The system's numbers: an argument that is none, and a name that is no text, which `std` does not open.
+const EINVAL: i32 = 22;
+
+const EILSEQ: i32 = 84;
 
 pub fn table_room() -> [u8; table::Counts::BYTES + 1]
     ensures { 289 ≡ length result }
@@ -36,45 +46,46 @@ fn is_standard_input(path: &[u8]) -> bool {
     }
 }
 
-// Why nothing more was read: 0 at the end of the file. Where a byte comes after all, the read before it had failed.
-fn error_after(fd: i32) -> i32 {
-    let mut byte = [0u8; 1];
-    let more = libc::read(fd, &mut byte);
-    if more < 0 {
-        return os::errno();
-    }
-    if more == 0 { 0 } else { EIO }
-}
-
-fn read_from(fd: i32, room: &mut [u8]) -> Got
-    ensures { IsPrefixLen result.bytes room.new }
+// As far as the room goes: of a full one nothing more is asked.
+fn read_from<S: Read>(source: &mut S, room: &mut [u8]) -> io::Result<usize>
+    ensures { ReadsAtMost result room.new }
 {
-    let bytes = io::read_full(fd, room);
-    if bytes == room.len() {
-        return Got { bytes, error: 0 };
+    let mut filled = 0;
+    while filled < room.len() {
+        let n = source.read(&mut room[filled..])?;
+        if n == 0 {
+            return Ok(filled);
+        }
+        filled += n;
     }
-    let error = error_after(fd);
-    if error == 0 {
-        Got { bytes, error }
-    } else {
-        Got { bytes: 0, error }
-    }
+    Ok(filled)
 }
 
-pub fn read_file(path: &[u8], room: &mut [u8]) -> Got
-    ensures { IsPrefixLen result.bytes room.new }
+fn read_path<R: Files + Input>(rt: &R, path: &[u8], room: &mut [u8]) -> io::Result<usize>
+    ensures { ReadsAtMost result room.new }
 {
     if is_standard_input(path) {
-        return read_from(STDIN_FILENO, room);
+        return read_from(&mut rt.reader(), room);
     }
-    let fd = os::open_read(path);
-    if fd < 0 {
-        return Got {
+    match from_utf8(path) {
+        Ok(name) => read_from(&mut File::open(rt, name)?, room),
+        Err(_) => Err(io::Error::from_raw_os_error(EILSEQ)),
+    }
+}
+
+// Only a name with a NUL in it is refused before the system is asked, and so has no number of the system's.
+fn number(error: &io::Error) -> i32 {
+    error.raw_os_error().unwrap_or(EINVAL)
+}
+
+pub fn read_file<R: Files + Input>(rt: &R, path: &[u8], room: &mut [u8]) -> Got
+    ensures { IsPrefixLen result.bytes room.new }
+{
+    match read_path(rt, path, room) {
+        Ok(bytes) => Got { bytes, error: 0 },
+        Err(error) => Got {
             bytes: 0,
-            error: os::errno(),
-        };
+            error: number(&error),
+        },
     }
-    let got = read_from(fd, room);
-    libc::close(fd);
-    got
 }
