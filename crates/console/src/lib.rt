@@ -9,9 +9,9 @@ ghost use Rattle.table.specs.Check.{checked_reply, table_reply};
 ghost use Rattle.standing.specs.Standing.{Stands};
 ghost use Rattle.standing.specs.Adding.{StandsBelow};
 
-use libc::STDOUT_FILENO;
 use monitor::{Answer, Verdict};
 use standing::{Standing, with_answer};
+use std::io;
 use table::{Checked, Counts, Refusal};
 
 // What `judged` answers: whether all lines were written, and how the properties stand.
@@ -28,63 +28,56 @@ pub struct Examined {
     pub answer: Checked,
 }
 
-fn say(text: &[u8]) -> bool {
-    io::write_all(STDOUT_FILENO, text)
-}
-
-fn say_number(n: u32) -> bool {
-    io::print_decimal(STDOUT_FILENO, n as u64)
-}
-
 // A name, a number and the end of the line.
-fn say_count(name: &[u8], n: u32) -> bool {
-    say(name) && say_number(n) && say(b"\n")
+fn say_count(rt: &impl Print, name: &str, n: u32) -> io::Result<()> {
+    println!(rt; "{name} {n}")
 }
 
-fn say_refused(refusal: Refusal) -> bool {
-    say(b"refused ") && say_number(refusal.number as u32) && say_count(b" ", refusal.place)
+fn say_refused(rt: &impl Print, refusal: Refusal) -> io::Result<()> {
+    let Refusal { number, place } = refusal;
+    println!(rt; "refused {number} {place}")
 }
 
-fn say_verdict(verdict: Verdict) -> bool {
+fn say_verdict(rt: &impl Print, property: u32, verdict: Verdict) -> io::Result<()> {
     match verdict {
-        Verdict::Broken(cycle) => say_count(b" broken ", cycle),
-        Verdict::Settled(cycle) => say_count(b" settled ", cycle),
-        Verdict::Pending(cycles) => say_count(b" pending ", cycles),
+        Verdict::Broken(cycle) => println!(rt; "{property} broken {cycle}"),
+        Verdict::Settled(cycle) => println!(rt; "{property} settled {cycle}"),
+        Verdict::Pending(cycles) => println!(rt; "{property} pending {cycles}"),
     }
 }
 
-fn say_property(property: u32, answer: Answer) -> bool {
+fn say_property(rt: &impl Print, property: u32, answer: Answer) -> io::Result<()> {
     match answer {
-        Answer::Refused(refusal) => say_refused(refusal),
-        Answer::Given(verdict) => say_number(property) && say_verdict(verdict),
+        Answer::Refused(refusal) => say_refused(rt, refusal),
+        Answer::Given(verdict) => say_verdict(rt, property, verdict),
     }
 }
 
 // The same where all before it was written.
-fn say_next(written: bool, property: u32, answer: Answer) -> bool {
-    written && say_property(property, answer)
+fn say_next(rt: &impl Print, written: bool, property: u32, answer: Answer) -> bool {
+    written && say_property(rt, property, answer).is_ok()
 }
 
-fn say_cycles(trace: &[u8]) -> bool {
-    say_count(b"cycles ", trace::samples::cycles_of(trace))
+fn say_cycles(rt: &impl Print, trace: &[u8]) -> io::Result<()> {
+    say_count(rt, "cycles", trace::samples::cycles_of(trace))
 }
 
-fn say_counts(counts: Counts) -> bool {
-    say(b"accepted\n")
-        && say_count(b"signals ", counts.signals as u32)
-        && say_count(b"rows ", counts.nodes as u32)
-        && say_count(b"properties ", counts.properties as u32)
+fn say_counts(rt: &impl Print, counts: Counts) -> io::Result<()> {
+    println!(rt; "accepted")?;
+    say_count(rt, "signals", u32::from(counts.signals))?;
+    say_count(rt, "rows", u32::from(counts.nodes))?;
+    say_count(rt, "properties", u32::from(counts.properties))
 }
 
-fn say_checked(answer: Checked) -> bool {
+fn say_checked(rt: &impl Print, answer: Checked) -> io::Result<()> {
     match answer {
-        Checked::Accepted(counts) => say_counts(counts),
-        Checked::Refused(refusal) => say_refused(refusal),
+        Checked::Accepted(counts) => say_counts(rt, counts),
+        Checked::Refused(refusal) => say_refused(rt, refusal),
     }
 }
 
 // The properties from the second on, where it is told of the first how it stands.
-fn others(table: &[u8], trace: &[u8], first: Told) -> Told
+fn others(rt: &impl Print, table: &[u8], trace: &[u8], first: Told) -> Told
     ensures { 1 ≤ u16_at table.now 6 → StandsBelow table.now trace.now 1 first.standing
         → StandsBelow table.now trace.now (u16_at table.now 6) result.standing }
 {
@@ -94,7 +87,7 @@ fn others(table: &[u8], trace: &[u8], first: Told) -> Told
     let mut property: u32 = 1;
     while property < properties {
         let answer = trace::judge(table, trace, property);
-        written = say_next(written, property, answer);
+        written = say_next(rt, written, property, answer);
         standing = with_answer(standing, answer);
         property += 1;
     }
@@ -102,26 +95,26 @@ fn others(table: &[u8], trace: &[u8], first: Told) -> Told
 }
 
 // A refusal of the table or of the trace is one of each property, so the first tells: one line then; else the cycles, and a line for each property.
-pub fn judged(table: &[u8], trace: &[u8]) -> Told
+pub fn judged(rt: &impl Print, table: &[u8], trace: &[u8]) -> Told
     ensures { Stands table.now trace.now result.standing }
 {
     let first = trace::judge(table, trace, 0);
     let standing = with_answer(Standing::Settled, first);
     let Answer::Given(_) = first else {
         return Told {
-            written: say_property(0, first),
+            written: say_property(rt, 0, first).is_ok(),
             standing,
         };
     };
-    let written = say_next(say_cycles(trace), 0, first);
-    others(table, trace, Told { written, standing })
+    let written = say_next(rt, say_cycles(rt, trace).is_ok(), 0, first);
+    others(rt, table, trace, Told { written, standing })
 }
 
 // An accepted table's counts, or the refusal.
-pub fn checked(table: &[u8]) -> Examined
+pub fn checked(rt: &impl Print, table: &[u8]) -> Examined
     ensures { checked_reply result.answer ≡ table_reply table.now }
 {
     let answer = table::check(table);
-    let written = say_checked(answer);
+    let written = say_checked(rt, answer).is_ok();
     Examined { written, answer }
 }

@@ -2,7 +2,7 @@
 
 #![tactic(auto)]
 
-use libc::STDOUT_FILENO;
+use std::io;
 use table::Checked;
 
 mod cases;
@@ -36,10 +36,6 @@ impl Tally {
             self.and(Tally { cases: 1, wrong: 1 })
         }
     }
-}
-
-fn say(text: &[u8]) {
-    io::write_all(STDOUT_FILENO, text);
 }
 
 // Puts a value at an offset, for each change.
@@ -85,7 +81,7 @@ pub(crate) fn cut(
     place: u32,
     changes: &[u8],
 ) -> Tally {
-    let mut room = io::buffer();
+    let mut room = [0u8; 4096];
     let table: &mut [u8] = &mut room;
     tables::put_base(&mut *table, base);
     put_changes(&mut *table, changes);
@@ -121,35 +117,33 @@ fn one_of(t: Tally, number: u8, place: u32, changes: &[u8], i: usize) -> Tally {
     t
 }
 
-fn tell(name: &[u8], t: Tally) -> Tally {
-    say(name);
-    io::print_decimal(STDOUT_FILENO, t.cases as u64);
-    say(b" cases, ");
-    io::print_decimal(STDOUT_FILENO, t.wrong as u64);
-    say(b" wrong\n");
-    t
+fn tell(rt: &impl Print, name: &str, t: Tally) -> io::Result<Tally> {
+    let Tally { cases, wrong } = t;
+    println!(rt; "{name}: {cases} cases, {wrong} wrong")?;
+    Ok(t)
 }
 
-fn header() -> Tally {
+fn header(rt: &impl Print) -> io::Result<Tally> {
     let first = cases::lengths().and(cases::headers());
-    tell(b"header, 1 to 4: ", first.and(cases::limits()))
+    tell(rt, "header, 1 to 4", first.and(cases::limits()))
 }
 
-fn rows() -> Tally {
+fn rows(rt: &impl Print) -> io::Result<Tally> {
     let first = cases::kinds().and(cases::fields());
-    tell(b"rows, 5 to 8: ", first.and(cases::classes()))
+    tell(rt, "rows, 5 to 8", first.and(cases::classes()))
 }
 
-fn uses() -> Tally {
-    tell(b"uses, 10: ", cases::uses().and(cases::sequence_uses()))
+fn uses(rt: &impl Print) -> io::Result<Tally> {
+    tell(rt, "uses, 10", cases::uses().and(cases::sequence_uses()))
 }
 
-fn cells() -> Tally {
-    tell(b"cells, 11: ", cases::cells().and(cases::many_cells()))
+fn cells(rt: &impl Print) -> io::Result<Tally> {
+    tell(rt, "cells, 11", cases::cells().and(cases::many_cells()))
 }
 
-fn main() {
-    let first = header().and(rows());
-    let second = tell(b"roots, 9: ", cases::roots()).and(uses());
-    tell(b"table: ", first.and(second).and(cells()));
+fn main(rt: HostRuntime) -> io::Result<()> {
+    let first = header(&rt)?.and(rows(&rt)?);
+    let second = tell(&rt, "roots, 9", cases::roots())?.and(uses(&rt)?);
+    tell(&rt, "table", first.and(second).and(cells(&rt)?))?;
+    Ok(())
 }

@@ -2,9 +2,9 @@
 use crate::reading::Head;
 use crate::states::{any_step, next_state, no_monitor, steps_on};
 use crate::steps::{Watch, fed, steps};
-use crate::tally::{Tally, more, say};
-use libc::STDOUT_FILENO;
+use crate::tally::{Tally, more};
 use monitor::Monitor;
+use std::io;
 
 // The records so far and what was compared of them; of the per-cycle entry, by every step; the last monitor that was opened; whether there are no more.
 #[derive(Clone, Copy)]
@@ -51,23 +51,23 @@ impl Compared {
     }
 
     // The records end where none can.
-    pub(crate) fn stopped(self) -> Self {
-        say(b"no whole record after record ");
-        io::print_decimal(STDOUT_FILENO, self.records);
-        say(b"\n");
+    pub(crate) fn stopped(self, rt: &impl Print) -> Self {
+        let records = self.records;
+        // Where it cannot be said, the counts can neither, and that ends the program.
+        let _ = println!(rt; "no whole record after record {records}");
         self.at_end()
     }
 
-    fn with_check(mut self, h: Head, table: &[u8]) -> Self {
+    fn with_check(mut self, rt: &impl Print, h: Head, table: &[u8]) -> Self {
         let t = self.checks;
-        self.checks = t.answered(self.records, h.expected, host::check(table));
+        self.checks = t.answered(rt, self.records, h.expected, host::check(table));
         self
     }
 
-    fn with_judged(mut self, h: Head, table: &[u8], trace: &[u8]) -> Self {
+    fn with_judged(mut self, rt: &impl Print, h: Head, table: &[u8], trace: &[u8]) -> Self {
         let t = self.judged;
         let answer = host::judge(table, trace, h.property);
-        self.judged = t.answered(self.records, h.expected, answer);
+        self.judged = t.answered(rt, self.records, h.expected, answer);
         self
     }
 
@@ -93,59 +93,72 @@ impl Compared {
         self
     }
 
-    fn with_steps(self, h: Head, table: &[u8], trace: &[u8]) -> Self {
-        self.with_watched(steps(self.watch(), self.records, h, table, trace))
+    fn with_steps(self, rt: &(impl Input + Print), h: Head, table: &[u8], trace: &[u8]) -> Self {
+        self.with_watched(steps(rt, self.watch(), self.records, h, table, trace))
     }
 
     // The last monitor goes on with other bytes; its answers are expected one by one.
-    fn with_shut(self, table: &[u8], trace: &[u8]) -> Self {
-        self.with_watched(fed(self.watch(), self.records, table, trace))
+    fn with_shut(self, rt: &(impl Input + Print), table: &[u8], trace: &[u8]) -> Self {
+        self.with_watched(fed(rt, self.watch(), self.records, table, trace))
     }
 
     // One step of any monitor is compared, and the further ones end.
-    fn with_any(mut self, h: Head, m: Monitor, table: &[u8], trace: &[u8]) -> Self {
+    fn with_any(
+        mut self,
+        rt: &impl Print,
+        h: Head,
+        m: Monitor,
+        table: &[u8],
+        trace: &[u8],
+    ) -> Self {
         let t = self.states;
         let l = self.lent;
-        self.states = any_step(t, self.records, h.expected, m, table, trace);
-        self.lent = steps_on(l, self.records, m, table, trace);
+        self.states = any_step(rt, t, self.records, h.expected, m, table, trace);
+        self.lent = steps_on(rt, l, self.records, m, table, trace);
         self
     }
 
     // The answers to one record more.
-    pub(crate) fn with(mut self, h: Head, table: &[u8], trace: &[u8]) -> Self {
+    pub(crate) fn with(
+        mut self,
+        rt: &(impl Input + Print),
+        h: Head,
+        table: &[u8],
+        trace: &[u8],
+    ) -> Self {
         self.records = more(self.records);
         if h.kind == Self::CHECK {
-            return self.with_check(h, table);
+            return self.with_check(rt, h, table);
         }
         if h.kind == Self::JUDGE {
-            return self.with_judged(h, table, trace);
+            return self.with_judged(rt, h, table, trace);
         }
         if h.kind == Self::STEPS {
-            return self.with_steps(h, table, trace);
+            return self.with_steps(rt, h, table, trace);
         }
         if h.kind == Self::STATE {
-            return self.with_any(h, next_state(), table, trace);
+            return self.with_any(rt, h, next_state(rt), table, trace);
         }
         if h.kind == Self::STRAY {
             let last = self.last;
-            return self.with_any(h, last, table, trace);
+            return self.with_any(rt, h, last, table, trace);
         }
         if h.kind == Self::SHUT {
-            return self.with_shut(table, trace);
+            return self.with_shut(rt, table, trace);
         }
-        self.stopped()
+        self.stopped(rt)
     }
 
-    pub(crate) fn print(self) {
+    pub(crate) fn print(self, rt: &impl Print) -> io::Result<()> {
         let checks = self.checks;
-        checks.print(b"check: ");
+        checks.print(rt, "check")?;
         let judged = self.judged;
-        judged.print(b"judge: ");
+        judged.print(rt, "judge")?;
         let steps = self.steps;
-        steps.print(b"steps: ");
+        steps.print(rt, "steps")?;
         let states = self.states;
-        states.print(b"states: ");
+        states.print(rt, "states")?;
         let lent = self.lent;
-        lent.print(b"advance: ");
+        lent.print(rt, "advance")
     }
 }

@@ -23,7 +23,14 @@ fn lent_step(table: &[u8], monitor: Monitor, sample: u32) -> Stepped {
 }
 
 // One sample by `step`; `advance` answers the same and leaves the same monitor.
-pub(crate) fn both_step(lent: Tally, at: u64, table: &[u8], monitor: Monitor, sample: u32) -> Step {
+pub(crate) fn both_step(
+    rt: &impl Print,
+    lent: Tally,
+    at: u64,
+    table: &[u8],
+    monitor: Monitor,
+    sample: u32,
+) -> Step {
     let s = monitor::step(table, monitor, sample);
     let l = lent_step(table, monitor, sample);
     let said = s.answer;
@@ -35,6 +42,6 @@ pub(crate) fn both_step(lent: Tally, at: u64, table: &[u8], monitor: Monitor, sa
     Step {
         answer,
         monitor: left,
-        lent: lent.judged(at, answer, lent_answer, agrees),
+        lent: lent.judged(rt, at, answer, lent_answer, agrees),
     }
 }

@@ -5,6 +5,7 @@
 
 use compared::Compared;
 use reading::{Head, Next};
+use std::io;
 
 mod compared;
 mod lent;
@@ -13,42 +14,53 @@ mod states;
 mod steps;
 mod tally;
 
-fn read(h: Head, table: &mut [u8], trace: &mut [u8]) -> bool {
-    reading::read_part(h.table, &mut *table) && reading::read_part(h.trace, &mut *trace)
+fn read(rt: &impl Input, h: Head, table: &mut [u8], trace: &mut [u8]) -> bool {
+    reading::read_part(rt, h.table, &mut *table) && reading::read_part(rt, h.trace, &mut *trace)
 }
 
-fn answered(c: Compared, h: Head, table: &[u8], trace: &[u8]) -> Compared {
+fn answered(
+    rt: &(impl Input + Print),
+    c: Compared,
+    h: Head,
+    table: &[u8],
+    trace: &[u8],
+) -> Compared {
     let table_size = h.table as usize;
     let trace_size = h.trace as usize;
     if table_size <= table.len() {
         if trace_size <= trace.len() {
-            return c.with(h, &table[..table_size], &trace[..trace_size]);
+            return c.with(rt, h, &table[..table_size], &trace[..trace_size]);
         }
     }
-    c.stopped()
+    c.stopped(rt)
 }
 
-fn next_record(c: Compared, table: &mut [u8], trace: &mut [u8]) -> Compared {
-    let next = reading::next_head();
+fn next_record(
+    rt: &(impl Input + Print),
+    c: Compared,
+    table: &mut [u8],
+    trace: &mut [u8],
+) -> Compared {
+    let next = reading::next_head(rt);
     match next {
         Next::End => c.at_end(),
-        Next::Cut => c.stopped(),
+        Next::Cut => c.stopped(rt),
         Next::Record(h) => {
-            if read(h, &mut *table, &mut *trace) {
-                answered(c, h, &*table, &*trace)
+            if read(rt, h, &mut *table, &mut *trace) {
+                answered(rt, c, h, &*table, &*trace)
             } else {
-                c.stopped()
+                c.stopped(rt)
             }
         }
     }
 }
 
 // Nothing says that the input ends, so the records are counted down, from a number that no run uses up.
-fn records(table: &mut [u8], trace: &mut [u8]) -> Compared {
+fn records(rt: &(impl Input + Print), table: &mut [u8], trace: &mut [u8]) -> Compared {
     let mut turns = u64::MAX;
     let mut c = Compared::new();
     while turns > 0 {
-        c = next_record(c, &mut *table, &mut *trace);
+        c = next_record(rt, c, &mut *table, &mut *trace);
         if c.ended {
             return c;
         }
@@ -57,9 +69,9 @@ fn records(table: &mut [u8], trace: &mut [u8]) -> Compared {
     c
 }
 
-fn main() {
+fn main(rt: HostRuntime) -> io::Result<()> {
     let mut table = reading::room();
     let mut trace = reading::room();
-    let c = records(&mut table, &mut trace);
-    c.print();
+    let c = records(&rt, &mut table, &mut trace);
+    c.print(&rt)
 }

@@ -1,9 +1,9 @@
 // Reads records: a head of 21 bytes, then the bytes of a table and those of a trace.
-ghost use Rattle.std.specs.Prelude.{◌≡◌, length};
+ghost use Rattle.std.specs.Prelude.{◌≡◌, ◌≤◌, length};
 
 use host::Packed;
-use libc::STDIN_FILENO;
 use little::u32_at;
+use std::io::Read;
 
 // What a record says before its bytes.
 #[derive(Clone, Copy)]
@@ -51,9 +51,24 @@ fn head_of(bytes: &[u8; Head::BYTES]) -> Head {
     }
 }
 
-pub(crate) fn next_head() -> Next {
+// How many bytes of the input are at the start of the space: as many as it has, unless the input ends or cannot be read.
+pub(crate) fn read_full(rt: &impl Input, space: &mut [u8]) -> usize
+    ensures { result ≤ length space.new }
+{
+    let mut input = rt.reader();
+    let mut filled = 0;
+    while filled < space.len() {
+        match input.read(&mut space[filled..]) {
+            Ok(0) | Err(_) => break,
+            Ok(n) => filled += n,
+        }
+    }
+    filled
+}
+
+pub(crate) fn next_head(rt: &impl Input) -> Next {
     let mut bytes = [0u8; Head::BYTES];
-    let got = io::read_full(STDIN_FILENO, &mut bytes);
+    let got = read_full(rt, &mut bytes);
     if got == Head::BYTES {
         return Next::Record(head_of(&bytes));
     }
@@ -61,17 +76,17 @@ pub(crate) fn next_head() -> Next {
 }
 
 // Reads so many bytes to the start of the space, if there is room and the input does not end before.
-pub(crate) fn read_part(size: u32, space: &mut [u8]) -> bool {
+pub(crate) fn read_part(rt: &impl Input, size: u32, space: &mut [u8]) -> bool {
     let want = size as usize;
     if space.len() < want {
         return false;
     }
-    io::read_full(STDIN_FILENO, &mut space[..want]) == want
+    read_full(rt, &mut space[..want]) == want
 }
 
 // The next number of 8 bytes; 0, which is no answer of a step, where the input ends before.
-pub(crate) fn next_answer() -> u64 {
+pub(crate) fn next_answer(rt: &impl Input) -> u64 {
     let mut bytes = [0u8; 8];
-    io::read_full(STDIN_FILENO, &mut bytes);
+    read_full(rt, &mut bytes);
     u64_at(&bytes, 0)
 }

@@ -1,12 +1,11 @@
 // Steps monitors that opening and stepping did not make: any words and any verdict.
 use crate::lent::both_step;
-use crate::reading::u64_at;
+use crate::reading::{read_full, u64_at};
 use crate::tally::Tally;
 use engine::Live;
 use engine::cycle::Expected;
 use engine::plan::Plan;
 use host::{Packed, answer_number};
-use libc::STDIN_FILENO;
 use little::{byte_at, u32_at};
 use monitor::{Answer, Monitor, Stand, Verdict};
 use trace::samples::{cycles_of, sample_at};
@@ -73,9 +72,9 @@ pub(crate) fn no_monitor() -> Monitor {
 }
 
 // The next state: six words, 32 families, the cycle and the verdict, the root.
-pub(crate) fn next_state() -> Monitor {
+pub(crate) fn next_state(rt: &impl Input) -> Monitor {
     let mut state = [0u8; 310];
-    io::read_full(STDIN_FILENO, &mut state);
+    read_full(rt, &mut state);
     monitor_of(&state)
 }
 
@@ -118,6 +117,7 @@ fn agrees(expected: u64, answer: u64, stays: bool) -> bool {
 
 // The answer to the first sample of a trace.
 pub(crate) fn any_step(
+    rt: &impl Print,
     tally: Tally,
     at: u64,
     expected: u64,
@@ -129,16 +129,23 @@ pub(crate) fn any_step(
     let answer = s.answer;
     let number = answer_number(answer);
     let stays = same(m, s.monitor);
-    tally.judged(at, expected, number, agrees(expected, number, stays))
+    tally.judged(rt, at, expected, number, agrees(expected, number, stays))
 }
 
 // Feeds every sample of a trace, whatever the answers; the per-cycle entry gives the same.
-pub(crate) fn steps_on(lent: Tally, at: u64, m: Monitor, table: &[u8], trace: &[u8]) -> Tally {
+pub(crate) fn steps_on(
+    rt: &impl Print,
+    lent: Tally,
+    at: u64,
+    m: Monitor,
+    table: &[u8],
+    trace: &[u8],
+) -> Tally {
     let cycles = cycles_of(trace);
     let mut lent = lent;
     let mut m = m;
     for i in 0..cycles {
-        let s = both_step(lent, at, table, m, sample_at(trace, i));
+        let s = both_step(rt, lent, at, table, m, sample_at(trace, i));
         m = s.monitor;
         lent = s.lent;
     }

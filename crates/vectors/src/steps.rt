@@ -24,7 +24,7 @@ fn opened_number(opened: Checked) -> u64 {
     }
 }
 
-fn opened(w: Watch, at: u64, h: Head, table: &[u8]) -> Watch {
+fn opened(rt: &impl Print, w: Watch, at: u64, h: Head, table: &[u8]) -> Watch {
     let o = monitor::open(table, h.property);
     let answer = o.answer;
     let m = o.monitor;
@@ -32,7 +32,7 @@ fn opened(w: Watch, at: u64, h: Head, table: &[u8]) -> Watch {
     let l = w.lent;
     Watch {
         monitor: m,
-        tally: t.answered(at, h.expected, opened_number(answer)),
+        tally: t.answered(rt, at, h.expected, opened_number(answer)),
         lent: l,
     }
 }
@@ -45,33 +45,46 @@ fn is_left(before: Monitor, answer: u64, after: Monitor) -> bool {
     ((Packed::LOW <= answer) & (answer != stood)) | same(before, after)
 }
 
-fn stepped(w: Watch, at: u64, table: &[u8], sample: u32) -> Watch {
+fn stepped(rt: &(impl Input + Print), w: Watch, at: u64, table: &[u8], sample: u32) -> Watch {
     let before = w.monitor;
-    let s = both_step(w.lent, at, table, before, sample);
+    let s = both_step(rt, w.lent, at, table, before, sample);
     let answer = s.answer;
     let after = s.monitor;
     let l = s.lent;
-    let expected = next_answer();
+    let expected = next_answer(rt);
     let agrees = (answer == expected) & is_left(before, answer, after);
     let t = w.tally;
     Watch {
         monitor: after,
-        tally: t.judged(at, expected, answer, agrees),
+        tally: t.judged(rt, at, expected, answer, agrees),
         lent: l,
     }
 }
 
 // The answer to each sample; the monitor as it is then.
-pub(crate) fn fed(w: Watch, at: u64, table: &[u8], trace: &[u8]) -> Watch {
+pub(crate) fn fed(
+    rt: &(impl Input + Print),
+    w: Watch,
+    at: u64,
+    table: &[u8],
+    trace: &[u8],
+) -> Watch {
     let cycles = cycles_of(trace);
     let mut w = w;
     for i in 0..cycles {
-        w = stepped(w, at, table, sample_at(trace, i));
+        w = stepped(rt, w, at, table, sample_at(trace, i));
     }
     w
 }
 
 // The answers to opening and to each sample.
-pub(crate) fn steps(w: Watch, at: u64, h: Head, table: &[u8], trace: &[u8]) -> Watch {
-    fed(opened(w, at, h, table), at, table, trace)
+pub(crate) fn steps(
+    rt: &(impl Input + Print),
+    w: Watch,
+    at: u64,
+    h: Head,
+    table: &[u8],
+    trace: &[u8],
+) -> Watch {
+    fed(rt, opened(rt, w, at, h, table), at, table, trace)
 }

@@ -1,5 +1,5 @@
 // Counts what was compared, and shows the first differences.
-use libc::STDOUT_FILENO;
+use std::io;
 
 // What was compared so far of one kind of record.
 #[derive(Clone, Copy)]
@@ -35,30 +35,31 @@ impl Tally {
     }
 
     // One more answer, shown where it does not agree with the one expected.
-    pub(crate) fn judged(self, at: u64, expected: u64, answer: u64, agrees: bool) -> Self {
+    pub(crate) fn judged(
+        self,
+        rt: &impl Print,
+        at: u64,
+        expected: u64,
+        answer: u64,
+        agrees: bool,
+    ) -> Self {
         if !agrees && self.differ < Self::SHOWN {
-            show(at, expected, answer);
+            // One that could not be shown is counted all the same.
+            let _ = show(rt, at, expected, answer);
         }
         self.with(agrees)
     }
 
     // One more answer, which agrees where it is the one expected.
-    pub(crate) fn answered(self, at: u64, expected: u64, answer: u64) -> Self {
-        self.judged(at, expected, answer, expected == answer)
+    pub(crate) fn answered(self, rt: &impl Print, at: u64, expected: u64, answer: u64) -> Self {
+        self.judged(rt, at, expected, answer, expected == answer)
     }
 
     // Says how many were compared.
-    pub(crate) fn print(self, kind: &[u8]) {
-        say(kind);
-        io::print_decimal(STDOUT_FILENO, self.compared);
-        say(b" compared, ");
-        io::print_decimal(STDOUT_FILENO, self.differ);
-        say(b" differ\n");
+    pub(crate) fn print(self, rt: &impl Print, kind: &str) -> io::Result<()> {
+        let Tally { compared, differ } = self;
+        println!(rt; "{kind}: {compared} compared, {differ} differ")
     }
-}
-
-pub(crate) fn say(text: &[u8]) {
-    io::write_all(STDOUT_FILENO, text);
 }
 
 // One more, as far as it can be counted.
@@ -66,15 +67,10 @@ pub(crate) fn more(count: u64) -> u64 {
     if count < u64::MAX { count + 1 } else { count }
 }
 
-fn show(at: u64, expected: u64, answer: u64) {
-    say(b"record ");
-    io::print_decimal(STDOUT_FILENO, at);
-    say(b": expected ");
-    io::print_decimal(STDOUT_FILENO, expected);
-    say(b", answered ");
-    io::print_decimal(STDOUT_FILENO, answer);
+fn show(rt: &impl Print, at: u64, expected: u64, answer: u64) -> io::Result<()> {
+    print!(rt; "record {at}: expected {expected}, answered {answer}")?;
     if expected == answer {
-        say(b" and left another monitor");
+        print!(rt; " and left another monitor")?;
     }
-    say(b"\n");
+    println!(rt; "")
 }

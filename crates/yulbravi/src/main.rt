@@ -11,6 +11,8 @@ ghost use Rattle.io.specs.Counts.{IsPrefixLen};
 use console::{checked, judged};
 use files::{Got, read_file, table_room, trace_room};
 use standing::{Standing, status};
+use std::env::FillError;
+use std::rt::{Env, Files};
 use table::Checked;
 
 // The places of the arguments, and how many there are with the program's own name.
@@ -24,27 +26,50 @@ const OF_CHECK: usize = 3;
 
 const OF_JUDGE: usize = 4;
 
-fn is_verb(verb: &[u8]) -> bool {
+// The system's numbers: an argument that is not there, and a name that is too long.
+const EINVAL: i32 = 22;
+
+const ENAMETOOLONG: i32 = 36;
+
+// Whether there is an argument in this place, of whatever length.
+fn is_given<R: Env>(rt: &R, place: usize) -> bool {
+    let mut byte = [0u8; 1];
+    match rt.arg(place, &mut byte) {
+        Ok(_) | Err(FillError::TooLong) => true,
+        Err(FillError::NotPresent) => false,
+    }
+}
+
+// Whether there are so many arguments, the program's own name among them.
+fn is_count<R: Env>(rt: &R, count: usize) -> bool
+    requires { 0 < count }
+{
+    is_given(rt, count - 1) && !is_given(rt, count)
+}
+
+fn is_verb<R: Env>(rt: &R, verb: &[u8]) -> bool {
     let mut word = io::buffer();
-    let length = os::arg(VERB, &mut word);
-    check::same(&word[..length], verb)
+    match rt.arg(VERB, &mut word) {
+        Ok(length) => check::same(&word[..length], verb),
+        Err(_) => false,
+    }
 }
 
 // The file that an argument names; a name that does not fit is an error too.
-fn argument_file(place: usize, room: &mut [u8]) -> Got
+fn argument_file<R: Env + Files + Input>(rt: &R, place: usize, room: &mut [u8]) -> Got
     ensures { IsPrefixLen result.bytes room.new }
 {
     let mut name = io::buffer();
-    let length = os::arg(place, &mut name);
-    let error = os::errno();
-    if error != 0 {
-        return Got { bytes: 0, error };
-    }
-    read_file(&name[..length], room)
+    let error = match rt.arg(place, &mut name) {
+        Ok(length) => return read_file(rt, &name[..length], room),
+        Err(FillError::TooLong) => ENAMETOOLONG,
+        Err(FillError::NotPresent) => EINVAL,
+    };
+    Got { bytes: 0, error }
 }
 
-fn judge_files(table: &[u8], trace: &[u8], table_error: i32, trace_error: i32) {
-    let told = judged(table, trace);
+fn judge_files(rt: &impl Print, table: &[u8], trace: &[u8], table_error: i32, trace_error: i32) {
+    let told = judged(rt, table, trace);
     let standing = told.standing;
     let unread = (table_error != 0) | (trace_error != 0);
     notes::note_status(told.written, unread, status(standing));
@@ -56,14 +81,15 @@ fn judge_files(table: &[u8], trace: &[u8], table_error: i32, trace_error: i32) {
     }
 }
 
-fn judge() {
+fn judge<R: Env + Files + Input + Print>(rt: &R) {
     let mut table = table_room();
-    let table_got = argument_file(TABLE, &mut table);
+    let table_got = argument_file(rt, TABLE, &mut table);
     let table_bytes = table_got.bytes;
     let mut trace = trace_room();
-    let trace_got = argument_file(TRACE, &mut trace);
+    let trace_got = argument_file(rt, TRACE, &mut trace);
     let trace_bytes = trace_got.bytes;
     judge_files(
+        rt,
         &table[..table_bytes],
         &trace[..trace_bytes],
         table_got.error,
@@ -79,8 +105,8 @@ fn check_status(answer: Checked) -> u32 {
     }
 }
 
-fn check_file(table: &[u8], error: i32) {
-    let examined = checked(table);
+fn check_file(rt: &impl Print, table: &[u8], error: i32) {
+    let examined = checked(rt, table);
     let answer = examined.answer;
     let unread = error != 0;
     notes::note_status(examined.written, unread, check_status(answer));
@@ -93,23 +119,19 @@ fn check_file(table: &[u8], error: i32) {
     }
 }
 
-fn check() {
+fn check<R: Env + Files + Input + Print>(rt: &R) {
     let mut table = table_room();
-    let got = argument_file(TABLE, &mut table);
+    let got = argument_file(rt, TABLE, &mut table);
     let bytes = got.bytes;
-    check_file(&table[..bytes], got.error);
+    check_file(rt, &table[..bytes], got.error);
 }
 
-fn main() {
-    let count = os::arg_count();
-    if (count == OF_JUDGE) && is_verb(b"judge") {
-        judge();
-    } else if (count == OF_CHECK) && is_verb(b"check") {
-        check();
+fn main(rt: HostRuntime) {
+    if is_count(&rt, OF_JUDGE) && is_verb(&rt, b"judge") {
+        judge(&rt);
+    } else if is_count(&rt, OF_CHECK) && is_verb(&rt, b"check") {
+        check(&rt);
     } else {
-        io::write_all(
-            libc::STDERR_FILENO,
-            b"yulbravi: run bin/yulbravi, which tells how\n",
-        );
+        let _ = eprintln!(rt; "yulbravi: run bin/yulbravi, which tells how");
     }
 }

@@ -1,7 +1,17 @@
 // The notes: lines for the command, on a descriptor of their own. Where it is not open nobody asked for them, so no failed write is told.
-use libc::{EACCES, EISDIR, ENOENT, ENOTDIR, EPERM};
 
 const NOTES: i32 = 9;
+
+// The system's numbers of errors.
+const EPERM: i32 = 1;
+
+const ENOENT: i32 = 2;
+
+const EACCES: i32 = 13;
+
+const ENOTDIR: i32 = 20;
+
+const EISDIR: i32 = 21;
 
 // The status of what was not run: a file that could not be read.
 const NOT_RUN: u32 = 2;
