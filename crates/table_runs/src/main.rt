@@ -40,11 +40,10 @@ impl Tally {
 
 // Puts a value at an offset, for each change.
 fn put_changes(table: &mut [u8], changes: &[u8]) {
-    let mut i: usize = 1;
-    while i < changes.len() {
-        let at = changes[i - 1] as usize;
-        tables::put(&mut *table, at, changes[i]);
-        i += 2;
+    for change in changes.chunks_exact(2) {
+        if let [at, value] = change {
+            tables::put(&mut *table, usize::from(*at), *value);
+        }
     }
 }
 
@@ -99,20 +98,8 @@ pub(crate) fn accepts(t: Tally, base: u16, changes: &[u8]) -> Tally {
 // Each change by itself has the document's table refused so.
 pub(crate) fn each(t: Tally, number: u8, place: u32, changes: &[u8]) -> Tally {
     let mut t = t;
-    let mut i: usize = 0;
-    while i < changes.len() {
-        t = one_of(t, number, place, changes, i);
-        i += 2;
-    }
-    t
-}
-
-fn one_of(t: Tally, number: u8, place: u32, changes: &[u8], i: usize) -> Tally {
-    if i < changes.len() {
-        let end = i + 2;
-        if end <= changes.len() {
-            return refuses(t, tables::DOCUMENT, number, place, &changes[i..end]);
-        }
+    for change in changes.chunks_exact(2) {
+        t = refuses(t, tables::DOCUMENT, number, place, change);
     }
     t
 }

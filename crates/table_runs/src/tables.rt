@@ -27,10 +27,8 @@ pub(crate) fn put(table: &mut [u8], at: usize, value: u8) {
 }
 
 fn put_all(table: &mut [u8], bytes: &[u8]) {
-    let mut i: usize = 0;
-    while i < bytes.len() {
-        put(&mut *table, i, bytes[i]);
-        i += 1;
+    for (at, value) in bytes.iter().enumerate() {
+        put(&mut *table, at, *value);
     }
 }
 
@@ -42,10 +40,8 @@ fn put_row(table: &mut [u8], node: u8, kind: u8, a: u8) {
 
 fn put_rungs(table: &mut [u8], nodes: u8) {
     put_row(&mut *table, 0, 3, 0);
-    let mut node: u8 = 1;
-    while node < nodes {
+    for node in 1..nodes {
         put_row(&mut *table, node, 16, node - 1);
-        node += 1;
     }
 }
 
