@@ -55,16 +55,14 @@ fn next_record(
     }
 }
 
-// Nothing says that the input ends, so the records are counted down, from a number that no run uses up.
+// Nothing says that the input ends, so the records are counted, up to a number that no run uses up.
 fn records(rt: &(impl Input + Print), table: &mut [u8], trace: &mut [u8]) -> Compared {
-    let mut turns = u64::MAX;
     let mut c = Compared::new();
-    while turns > 0 {
+    for _ in 0..u64::MAX {
         c = next_record(rt, c, &mut *table, &mut *trace);
         if c.ended {
             return c;
         }
-        turns -= 1;
     }
     c
 }
