@@ -40,11 +40,14 @@ fn is_given<R: Env>(rt: &R, place: usize) -> bool {
     }
 }
 
-// Whether there are so many arguments, the program's own name among them.
-fn is_count<R: Env>(rt: &R, count: usize) -> bool
-    requires { 0 < count }
-{
-    is_given(rt, count - 1) && !is_given(rt, count)
+// How many arguments there are with the program's own name, as far as any verb takes them and one more.
+fn arg_count<R: Env>(rt: &R) -> usize {
+    for place in 0..=OF_JUDGE {
+        if !is_given(rt, place) {
+            return place;
+        }
+    }
+    OF_JUDGE + 1
 }
 
 fn is_verb<R: Env>(rt: &R, verb: &[u8]) -> bool {
@@ -127,9 +130,10 @@ fn check<R: Env + Files + Input + Print>(rt: &R) {
 }
 
 fn main(rt: HostRuntime) {
-    if is_count(&rt, OF_JUDGE) && is_verb(&rt, b"judge") {
+    let count = arg_count(&rt);
+    if (count == OF_JUDGE) && is_verb(&rt, b"judge") {
         judge(&rt);
-    } else if is_count(&rt, OF_CHECK) && is_verb(&rt, b"check") {
+    } else if (count == OF_CHECK) && is_verb(&rt, b"check") {
         check(&rt);
     } else {
         let _ = eprintln!(rt; "yulbravi: run bin/yulbravi, which tells how");
