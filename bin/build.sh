@@ -121,8 +121,8 @@ start() { # FOLDER COMMAND..
 
 # Waits for what was started: its status is `ended`, and its output stays in the folder until `clear_room`.
 await() {
-    wait "$started"
-    ended=$?
+    ended=0
+    wait "$started" || ended=$?
 }
 
 clear_room() {
