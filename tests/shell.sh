@@ -56,6 +56,27 @@ standard_input_and_pipes() {
     judges env TMPDIR="$work/none" bin/judge "$short"
 }
 
+# A name that is no text is as good as any other, and nothing is left behind.
+odd_names() {
+    odd=$(printf 'na\351me')
+    mkdir "$work/$odd" "$work/tmp"
+    cp "$here/$short/table.bin" "$here/$short/trace.bin" "$work/$odd"
+    mkfifo "$work/$odd/fifo"
+    set -- env TMPDIR="$work/tmp" "$here/bin/yulbravi"
+    judges "$@" judge "$work/$odd"
+    judges "$@" judge "$work/$odd/table.bin" "$here/$short/trace.bin"
+    judges env -C "$work" "$@" judge "$odd"
+    does 2 'refused 15 0\n' "$odd/none: there is no such file" "$@" judge "$work/$odd/table.bin" "$work/$odd/none"
+    does 2 'refused 15 0\n' "$odd: this is a folder" "$@" judge "$work/$odd/table.bin" "$work/$odd"
+    "$@" judge "$work/$odd/table.bin" "$work/$odd/fifo" >"$work/wrote" 2>"$work/told" &
+    waiting=$!
+    sleep 2
+    kill -TERM "$waiting"
+    { wait "$waiting"; } 2>/dev/null
+    [ $? -eq 143 ] && rmdir "$work/tmp"
+    counts $? 'a name that is no text leaves something behind'
+}
+
 # A command that waits for its file is ended by a signal, and leaves no process and no file. What a shell puts into the background would ignore INT.
 ended_by() { # SIGNAL STATUS
     mkdir "$work/tmp"
@@ -211,6 +232,7 @@ need pgrep procps && need setpriv util-linux && need script bsdutils
 counts $? 'what the tests need is missing'
 names
 standard_input_and_pipes
+odd_names
 ended_by TERM 143
 ended_by INT 130
 ended_by HUP 129
