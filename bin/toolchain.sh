@@ -23,7 +23,7 @@ emulated() { # PROGRAM [WORD..]
     $before ${emulator:+"$emulator"} "$@"
 }
 
-# Runs a program that rt linked, as rt does: with the toolchain's loader and C library.
+# Runs a program that rt linked, with the loader and the C library that it was linked against, so that the machine's own do not matter.
 linked() { # PROGRAM [WORD..]
     emulated "$tools/lib/ld-linux-x86-64.so.2" --library-path "$tools/lib" "$@"
 }
