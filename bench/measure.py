@@ -100,7 +100,8 @@ def file_rows():
 
 def size_rows():
     """State and stack."""
-    rows = [("bytes of state: `Monitor`", stack.bytes_copied(os.path.join(WORK, "step.ll"), "monitor::step", 2), 320)]
+    # its parameters are the result's place, the table as a place and a length, the monitor, the sample
+    rows = [("bytes of state: `Monitor`", stack.bytes_copied(os.path.join(WORK, "step.ll"), "monitor::step", 3), 320)]
     for file, name in ("step", "monitor::step"), ("advance", "monitor::entry::advance"):
         deepest = stack.deepest(stack.frames(os.path.join(WORK, file + ".o")), name)[0]
         rows.append(("bytes of stack: `%s` with all it calls" % file, deepest, 2048))

@@ -1,17 +1,21 @@
 """Stack of a function with everything it calls, and the size of a state, read off compiled x86-64 code.
 
 Frames are read off the disassembled object: the return address, each push and each subtraction from the stack pointer, each counted once. That
-is no less than a frame can take. A function of the C library (memcpy, memset) counts its return address alone.
+is no less than a frame can take, as long as nothing else moves the stack pointer down: a function that does is odd, and is not to be reached. A
+function of the C library (memcpy, memset) counts its return address alone.
 """
 import re
 import subprocess
 
 C_LIBRARY = {"memcpy", "memmove", "memset"}
+# What ends a frame; what else names the stack pointer as a frame's size is found or as its pages are touched in a loop.
+ENDS = r"lea\s+0x[0-9a-f]+\(%rsp\),%rsp|lea\s+-0x[0-9a-f]+\(%rbp\),%rsp|mov\s+%rbp,%rsp"
+ODD = r"(sub|and|lea|mov)\s.*,%rsp$|cmp\s+%rsp,|cmp\s.*,%rsp$"
 
 
 class Frame:
     def __init__(self):
-        self.bytes, self.calls = 8, set()
+        self.bytes, self.calls, self.odd = 8, set(), None
 
 
 def frames(path):
@@ -29,13 +33,13 @@ def frames(path):
         down = re.match(r"sub\s+\$0x([0-9a-f]+),%rsp", text)
         if down:
             frame.bytes += int(down.group(1), 16)
-        if re.match(r"(sub|and|lea)\s.*,%rsp$", text) and not down and not re.match(r"lea\s+0x[0-9a-f]+\(%rsp\),%rsp", text):
-            raise ValueError("a frame that is not plain: " + line)
+        if re.match(ODD, text) and not down and not re.match(ENDS, text):
+            frame.odd = frame.odd or "a frame that is not plain: " + line
         call = re.match(r"(?:call|jmp|j[a-z]+)\s.*R_X86_64_PLT32\s+(.*?)(?:[+-]0x[0-9a-f]+)?$", text)
         if call:
             frame.calls.add(re.sub(r"^\.text\.", "", call.group(1)))
         elif re.match(r"call\s+\*", text):
-            raise ValueError("a call that is not plain: " + line)
+            frame.odd = frame.odd or "a call that is not plain: " + line
     return found
 
 
@@ -46,6 +50,8 @@ def deepest(found, name, above=()):
     if name in above:
         raise ValueError("recursion: " + " > ".join(above + (name,)))
     frame = found[name]
+    if frame.odd:
+        raise ValueError(" > ".join(above + (name,)) + ": " + frame.odd)
     best, chain = max((deepest(found, callee, above + (name,)) for callee in sorted(frame.calls)), default=(0, []), key=lambda x: x[0])
     return frame.bytes + best, [name] + chain
 

@@ -9,23 +9,23 @@ say() { # WORD..
     printf 'yulbravi: %s\n' "$*" >&2
 }
 
-# The crates of this repository that one is made of, itself among them.
+# The crates of this repository that one is made of, in the order in which rt proves them, so itself as the last.
 crates_of() { # NAME
     awk -v want="$1" '
         function visit(name,    uses, i, n) {
             if (seen[name]++) return
-            print name
             n = split(deps[name], uses, " ")
             for (i = 1; i <= n; i++) if (uses[i] in deps) visit(uses[i])
+            print name
         }
         { sub(/#.*/, "") }
-        /:/ { name = $0; sub(/ *:.*/, "", name); sub(/[^:]*:/, ""); deps[name] = $0 }
+        /:/ { name = $1; sub(/:.*/, "", name); sub(/[^:]*:/, ""); deps[name] = $0 }
         END { visit(want) }' "$home/crates.txt"
 }
 
 # The crate that is built for each.
 crate_for() { # program|library
-    case $1 in program) echo yulbravi ;; library) echo host ;; esac
+    case $1 in program) echo yulbravi ;; library) echo host_c ;; esac
 }
 
 # What a crate is made of, in one line that changes with any of its sources.
@@ -72,16 +72,26 @@ release() {
     exec 8>&-
 }
 
+# The crates that a log of rt says are proved, a line each: the place among all, the name. Those that an earlier run proved have no line, so that places are left out.
+proved_in() { # LOG CRATES
+    awk -v crates="$2" '
+        BEGIN { n = split(crates, names, " "); for (i = 1; i <= n; i++) place[names[i]] = i }
+        /^rt: chose --jobs [0-9]+ for / { name = $NF }
+        /^logic=proved / && name in place { print place[name], name }' "$1"
+}
+
 # What is seen of a proof that goes on: a count that is written over on a terminal, else a line for each crate.
-show_proved() { # LOG TOTAL SECONDS
-    now=$(grep -c '^rt: [a-z_]* proved' "$1")
+show_proved() { # LOG CRATES SECONDS
+    total=$(echo "$2" | wc -w)
     if [ -t 2 ]; then
-        printf '\ryulbravi: %s of %s crates are proved, %s s \033[K' "$now" "$2" "$3" >&2
-    elif [ "$now" -gt "$shown" ]; then
-        sed -n 's/^rt: \([a-z_]* proved.*\)/\1/p' "$1" | sed -n "$((shown + 1)),${now}p" |
-            while IFS= read -r line; do shown=$((shown + 1)) && say "$shown of $2: $line"; done
+        last=$(proved_in "$1" "$2" | sed -n '$s/ .*//p')
+        printf '\ryulbravi: %s of %s crates are proved, %s s \033[K' "${last:-0}" "$total" "$3" >&2
+        return
     fi
-    shown=$now
+    fresh=$(proved_in "$1" "$2" | tail -n "+$((shown + 1))")
+    [ -n "$fresh" ] || return 0
+    shown=$((shown + $(echo "$fresh" | wc -l)))
+    echo "$fresh" | while read -r place name; do say "$place of $total: $name proved"; done
 }
 
 # Ends by a signal, with all that was started, and leaves no folder.
@@ -93,9 +103,9 @@ stop_started() { # SIGNAL
     kill -s "$1" $$
 }
 
-# Starts a command at the clone's top, in a session and with a folder of its own for its output and temporary files. Programs that the prover runs as nobody have to get
-# through the folder.
-start() { # COMMAND..
+# Starts a command in a folder of the clone, in a session and with a folder of its own for its output and temporary files. Programs that the prover runs as nobody have to
+# get through that folder.
+start() { # FOLDER COMMAND..
     started='' room=''
     for signal in HUP INT TERM; do
         # shellcheck disable=SC2064
@@ -103,14 +113,16 @@ start() { # COMMAND..
     done
     trap 'stop_started TERM' QUIT
     room=$(mktemp -d) && chmod 711 "$room" && : >"$room/log" || return 2
-    (cd -- "$home" && TMPDIR=$room exec setsid "$@") >>"$room/log" 2>&1 &
+    folder=$home/$1
+    shift
+    (cd -- "$folder" && TMPDIR=$room exec setsid "$@") >>"$room/log" 2>&1 </dev/null &
     started=$!
 }
 
 # Waits for what was started: its status is `ended`, and its output stays in the folder until `clear_room`.
 await() {
-    wait "$started"
-    ended=$?
+    ended=0
+    wait "$started" || ended=$?
 }
 
 clear_room() {
@@ -118,14 +130,13 @@ clear_room() {
     trap - HUP INT QUIT TERM
 }
 
-# Runs the prover out of sight, and shows how far it is.
-prove() { # TOTAL COMMAND..
-    total=$1 shown=0 began=$(date +%s)
-    shift
-    start "$@" || return 2
+# Runs the prover over a crate out of sight, and shows how far it is: `rt run`, which runs the program too, and that ends with 0, or `rt lib`.
+prove() { # run|lib NAME
+    crates=$(crates_of "$2" | tr '\n' ' ') shown=0 began=$(date +%s)
+    start "crates/$2" rt "$1" || return 2
     while kill -0 "$started" 2>/dev/null; do
         sleep 0.5
-        show_proved "$room/log" "$total" $(($(date +%s) - began))
+        show_proved "$room/log" "$crates" $(($(date +%s) - began))
     done
     [ ! -t 2 ] || printf '\n' >&2
     await
@@ -141,7 +152,7 @@ keep() { # FILE NAME
 
 keep_program() {
     keep "$tools/lib/ld-linux-x86-64.so.2" ld-linux-x86-64.so.2 && keep "$tools/lib/libc.so.6" libc.so.6 &&
-        { [ -z "$emulator" ] || keep "$emulator" qemu-x86_64; } && keep "$home/target/bin/yulbravi" yulbravi &&
+        { [ -z "$emulator" ] || keep "$emulator" qemu-x86_64; } && keep "$home/crates/yulbravi/out/yulbravi" yulbravi &&
         rt version >"$built/toolchain.new" && mv -f -- "$built/toolchain.new" "$built/toolchain"
 }
 
@@ -150,7 +161,7 @@ keep_program() {
 keep_library() {
     objects=$built/objects
     rm -rf -- "$objects" "$built/named.a" && mkdir -- "$objects" &&
-        (cd -- "$objects" && "$tools/bin/llvm-ar" x "$home/target/staticlib/libhost.a") &&
+        (cd -- "$objects" && "$tools/bin/llvm-ar" x "$home/crates/host_c/out/libhost_c.a") &&
         "$tools/bin/ld.lld" -r --defsym=yulbravi_check=check --defsym=yulbravi_judge=judge -o "$objects/yulbravi.all" "$objects"/*.o &&
         mv -- "$objects/yulbravi.all" "$objects/yulbravi.o" && "$tools/bin/llvm-ar" rcs "$built/named.a" "$objects/yulbravi.o" &&
         rm -rf -- "$objects" && mv -f -- "$built/named.a" "$built/libyulbravi.a"
@@ -160,11 +171,11 @@ keep_library() {
 build_held() { # program|library
     ! current "$1" || return 0
     . "$home/bin/toolchain.sh"
-    build_crate=$(crate_for "$1") build_verb=check
-    [ "$1" = program ] || build_verb=staticlib
-    build_sources=$(sources_of "$build_crate") build_count=$(crates_of "$build_crate" | wc -l)
-    say "proving the $1: $build_count crates, some minutes where none is proved yet"
-    prove "$build_count" rt "$build_verb" "$build_crate" || {
+    build_crate=$(crate_for "$1") build_verb=run
+    [ "$1" = program ] || build_verb=lib
+    build_sources=$(sources_of "$build_crate")
+    say "proving the $1: $(crates_of "$build_crate" | wc -l) crates, some minutes where none is proved yet"
+    prove "$build_verb" "$build_crate" || {
         say "the $1 is not proved: nothing is run"
         return 2
     }

@@ -1,5 +1,5 @@
 # toolchain.sh, for sh to source: where the Rattle toolchain stands, how an x86-64 program is run with it, how a Debian package is had.
-# The order is rt's own: RATTLE_HOME, else the folder above the one that the real file of rt stands in.
+# It is RATTLE_HOME where that is set, which rt itself does not read, else the folder above the one that the real file of rt stands in.
 
 toolchain=${RATTLE_HOME:-}
 if [ -z "$toolchain" ]; then
@@ -10,7 +10,8 @@ if [ -z "$toolchain" ]; then
     toolchain=$(readlink -f "$toolchain")
     toolchain=${toolchain%/bin/*}
 fi
-tools=$toolchain/on/$(uname -m)/toolchain
+tools=$toolchain/toolchain
+# Today's toolchain is for x86-64 alone and has none; where one comes with it, it is used.
 emulator=$tools/bin/qemu-x86_64
 [ -x "$emulator" ] || emulator=
 
@@ -22,7 +23,7 @@ emulated() { # PROGRAM [WORD..]
     $before ${emulator:+"$emulator"} "$@"
 }
 
-# Runs a program that rt linked, as rt does: with the toolchain's loader and C library.
+# Runs a program that rt linked, with the loader and the C library that it was linked against, so that the machine's own do not matter.
 linked() { # PROGRAM [WORD..]
     emulated "$tools/lib/ld-linux-x86-64.so.2" --library-path "$tools/lib" "$@"
 }

@@ -357,13 +357,13 @@ kits_names() {
     kits_line out "judge one: " && grep -q " './-a kit/acknowledged'$" "$work/kits.out"
     counts $? 'examples/make: how to go on with a name with a dash and spaces'
     cp -R examples "$work/kits of mine/own"
-    rm "$work/kits of mine/own/grant/table.bin"
+    rm "$work/kits of mine/own/grant/table.bin" "$work/kits of mine/own/grant/fair/table.bin"
     ln -s 'kits of mine/own/make' "$work/kits.link"
     (cd / && "$work/kits.link") >"$work/kits.out" 2>"$work/kits.err"
     kits_status=$?
     kits_case 'every kit beside the script, through a link' 0 out 'grant: table.bin, and trace.bin in 5 folders'
-    diff -r examples "$work/kits of mine/own"
-    counts $? 'examples/make: the kits beside the script are others, or something is left behind'
+    diff -r examples "$work/kits of mine/own" && [ -z "$(find "$work/kits of mine/own" -type l)" ]
+    counts $? 'examples/make: the kits beside the script are others or have links, or something is left behind'
     kits_bare
     sed -i '36s/ack/rst/' "$kits_kit/table.txt"
     kits_run "$kits_kit" "$work/kits of mine/own/burst"

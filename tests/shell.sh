@@ -56,6 +56,27 @@ standard_input_and_pipes() {
     judges env TMPDIR="$work/none" bin/judge "$short"
 }
 
+# A name that is no text is as good as any other, and nothing is left behind.
+odd_names() {
+    odd=$(printf 'na\351me')
+    mkdir "$work/$odd" "$work/tmp"
+    cp "$here/$short/table.bin" "$here/$short/trace.bin" "$work/$odd"
+    mkfifo "$work/$odd/fifo"
+    set -- env TMPDIR="$work/tmp" "$here/bin/yulbravi"
+    judges "$@" judge "$work/$odd"
+    judges "$@" judge "$work/$odd/table.bin" "$here/$short/trace.bin"
+    judges env -C "$work" "$@" judge "$odd"
+    does 2 'refused 15 0\n' "$odd/none: there is no such file" "$@" judge "$work/$odd/table.bin" "$work/$odd/none"
+    does 2 'refused 15 0\n' "$odd: this is a folder" "$@" judge "$work/$odd/table.bin" "$work/$odd"
+    "$@" judge "$work/$odd/table.bin" "$work/$odd/fifo" >"$work/wrote" 2>"$work/told" &
+    waiting=$!
+    sleep 2
+    kill -TERM "$waiting"
+    { wait "$waiting"; } 2>/dev/null
+    [ $? -eq 143 ] && rmdir "$work/tmp"
+    counts $? 'a name that is no text leaves something behind'
+}
+
 # A command that waits for its file is ended by a signal, and leaves no process and no file. What a shell puts into the background would ignore INT.
 ended_by() { # SIGNAL STATUS
     mkdir "$work/tmp"
@@ -81,8 +102,12 @@ make_clone() {
 #!/bin/sh
 [ "\$1" != version ] || { echo 'a toolchain of the test'; exit; }
 echo "\$*" >>"$clone/calls"
-for name in first second third; do sleep "\${RT_TAKES:-0.6}"; echo "rt: \$name proved (0 s)"; done
-mkdir -p target/bin && cp "$here/target/bin/yulbravi" target/bin && exit "\${RT_ENDS:-0}"
+for name in little psl table; do
+    echo "rt: chose --jobs 2 for \$name"
+    sleep "\${RT_TAKES:-0.6}"
+    echo "logic=proved functions=1"
+done
+mkdir -p out && cp "$here/built/yulbravi" out && exit "\${RT_ENDS:-0}"
 END
     chmod +x "$clone/tools/rt"
     chmod -R go+rX "$clone"
@@ -109,7 +134,7 @@ two_at_once() {
     calls 1 'two runs at once call the prover twice'
     cat "$work/told1" "$work/told2" | grep -q 'another run is proving in this clone: waiting'
     counts $? 'a run that waits does not say so'
-    cat "$work/told1" "$work/told2" | grep -q '^yulbravi: 2 of [0-9]*: second proved'
+    cat "$work/told1" "$work/told2" | grep -q '^yulbravi: 2 of [0-9]*: psl proved'
     counts $? 'what is proved is not shown as it goes on'
 }
 
@@ -166,12 +191,24 @@ another_user() {
     chmod u+w "$clone/built"
 }
 
-# tests/run shows the lines of its parts as they come, adds them up, and fails where one fails.
+# tests/run ends with this status and line, its parts being told this.
+run_gives() { # STATUS LINE VARIABLE=VALUE
+    there env COMPARE_TAKES=0 "$3" sh "$clone/tests/run" >"$work/wrote" 2>&1
+    [ $? -eq "$1" ] && [ "$(tail -n 1 "$work/wrote")" = "$2" ]
+    counts $? "tests/run does not end in '$2' with $3"
+}
+
+# tests/run shows the lines of its parts as they come, adds them up, and fails where one fails or where an edit is bad.
 the_test_command() {
     mkdir "$clone/tests" && cp tests/run "$clone/tests"
-    printf 'echo begun; sleep 5; echo "2 passed, 0 failed"\n' >"$clone/tests/compare"
+    printf 'echo begun; sleep "${COMPARE_TAKES:-5}"; echo "2 passed, 0 failed"\n' >"$clone/tests/compare"
     printf 'echo "3 passed, ${BAD:-0} failed"; exit ${BAD:-0}\n' >"$clone/tests/lab"
-    printf '#!/bin/sh\necho "1 passed, 0 failed"\n' >"$clone/tools/rt"
+    cat >"$clone/tools/rt" <<'END'
+#!/bin/sh
+[ -n "${NOT_OK:-}" ] || echo "rt: ok; handles allowed: none; must-fail edits: 3 refused${EDITS:-}; every proof and must-fail edit was done in this run"
+echo "1 passed, 0 failed${TAIL:-}"
+exit "${GATE_ENDS:-0}"
+END
     there sh "$clone/tests/run" >"$work/wrote" 2>&1 &
     running=$!
     tries=100
@@ -182,15 +219,20 @@ the_test_command() {
     [ "$same" -eq 0 ] || sed 's/^/    /' "$work/wrote"
     wait "$running" && [ "$(tail -n 1 "$work/wrote")" = '6 passed, 0 failed' ]
     counts $? 'tests/run does not add up its parts'
-    there env BAD=1 sh "$clone/tests/run" >"$work/wrote" 2>&1
-    [ $? -eq 1 ] && [ "$(tail -n 1 "$work/wrote")" = '6 passed, 1 failed' ]
-    counts $? 'tests/run passes though a part fails'
+    run_gives 1 '6 passed, 1 failed' BAD=1
+    run_gives 1 '6 passed, 1 failed' GATE_ENDS=2
+    run_gives 1 '6 passed, 2 failed' EDITS=', 1 of them only by a limit, 2 bad'
+    run_gives 0 '6 passed, 0 failed' EDITS=', 1 of them only by a limit'
+    run_gives 1 '6 passed, 1 failed' NOT_OK=yes
+    run_gives 0 '6 passed, 0 failed' TAIL=' (and more)'
+    run_gives 1 '5 passed, 1 failed' TAIL=' and more'
 }
 
 need pgrep procps && need setpriv util-linux && need script bsdutils
 counts $? 'what the tests need is missing'
 names
 standard_input_and_pipes
+odd_names
 ended_by TERM 143
 ended_by INT 130
 ended_by HUP 129
