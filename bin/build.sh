@@ -130,7 +130,7 @@ clear_room() {
     trap - HUP INT QUIT TERM
 }
 
-# Runs the prover over a crate out of sight, and shows how far it is: `rt run`, which runs the program too, and that ends with 0, or `rt lib`.
+# Runs the prover over a crate out of sight, and shows how far it is: by `rt run`, which proves and links a program and then runs it, or `rt lib`.
 prove() { # run|lib NAME
     crates=$(crates_of "$2" | tr '\n' ' ') shown=0 began=$(date +%s)
     start "crates/$2" rt "$1" || return 2
@@ -140,6 +140,8 @@ prove() { # run|lib NAME
     done
     [ ! -t 2 ] || printf '\n' >&2
     await
+    # How the program ends when rt runs it says nothing of the proof.
+    ! grep -q "^rt: running out/$2;" "$room/log" || ended=0
     [ "$ended" -eq 0 ] || tail -n 40 -- "$room/log" >&2
     clear_room
     return "$ended"

@@ -107,6 +107,7 @@ for name in little psl table; do
     sleep "\${RT_TAKES:-0.6}"
     echo "logic=proved functions=1"
 done
+[ -z "\${RT_RUNS:-}" ] || echo 'rt: running out/yulbravi; to give it other input, run that file yourself'
 mkdir -p out && cp "$here/built/yulbravi" out && exit "\${RT_ENDS:-0}"
 END
     chmod +x "$clone/tools/rt"
@@ -152,6 +153,8 @@ built_once() {
     rm "$clone/built/libc.so.6"
     judges there "$clone/bin/judge" "$short"
     calls 4 'what was built is not there, and the prover is not called'
+    printf '\n' >>"$clone/crates/yulbravi/src/main.rt"
+    judges there env RT_RUNS=yes RT_ENDS=1 "$clone/bin/judge" "$short"
 }
 
 seen_on_a_terminal() {
