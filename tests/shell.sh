@@ -56,6 +56,21 @@ standard_input_and_pipes() {
     judges env TMPDIR="$work/none" bin/judge "$short"
 }
 
+# Names that are UTF-8, and that only some take for it; and a folder for temporary files of such a name.
+other_names() { # COMMAND..
+    for other in 'b\303\251' 'b\364\220\200\200' 'b\370\210\200\200\200'; do
+        # shellcheck disable=SC2059
+        other=$(printf "$other")
+        cp "$here/$short/table.bin" "$work/$other"
+        judges "$@" judge "$work/$other" "$here/$short/trace.bin"
+    done
+    other=$work/$(printf 't\351')
+    mkdir "$other"
+    judges env TMPDIR="$other" "$here/bin/yulbravi" judge "$work/$odd"
+    rmdir "$other"
+    counts $? 'a folder for temporary files that is no text has something left in it'
+}
+
 # A name that is no text is as good as any other, and nothing is left behind.
 odd_names() {
     odd=$(printf 'na\351me')
@@ -67,6 +82,7 @@ odd_names() {
     judges "$@" judge "$work/$odd/table.bin" "$here/$short/trace.bin"
     judges env -C "$work" "$@" judge "$odd"
     does 2 'refused 15 0\n' "$odd/none: there is no such file" "$@" judge "$work/$odd/table.bin" "$work/$odd/none"
+    other_names "$@"
     does 2 'refused 15 0\n' "$odd: this is a folder" "$@" judge "$work/$odd/table.bin" "$work/$odd"
     "$@" judge "$work/$odd/table.bin" "$work/$odd/fifo" >"$work/wrote" 2>"$work/told" &
     waiting=$!

@@ -1,5 +1,5 @@
 // The program below the command `yulbravi`: `judge TABLE TRACE` or `check TABLE`, where a file named `-` is standard input.
-// It writes the lines of `console` on standard output. A program gives no exit status, so the notes say it, and what else the command has to tell.
+// It writes the lines of `console` on standard output. It ends with 0 itself: the notes say the exit status, and what else the command has to tell.
 
 #![tactic(auto)]
 
