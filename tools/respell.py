@@ -142,6 +142,9 @@ def clashes(root, names):
 
 
 def main(argv):
+    if argv not in ([], ["--list"]):
+        print(__doc__)
+        return 0 if argv[:1] in (["--help"], ["-h"]) else 2
     root = "."
     names = renames(root)
     if argv == ["--list"]:
