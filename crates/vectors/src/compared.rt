@@ -113,7 +113,8 @@ impl Compared {
     ) -> Self {
         let t = self.states;
         let l = self.lent;
-        self.states = any_step(rt, t, self.records, h.expected, m, table, trace);
+        let seen = any_step(h.expected, m, table, trace);
+        self.states = t.judged(rt, self.records, h.expected, seen.number, seen.agrees);
         self.lent = steps_on(rt, l, self.records, m, table, trace);
         self
     }

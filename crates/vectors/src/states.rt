@@ -115,21 +115,22 @@ fn agrees(expected: u64, answer: u64, stays: bool) -> bool {
     }
 }
 
+// The number of an answer, and whether that may be answered where another is expected.
+#[derive(Clone, Copy)]
+pub(crate) struct Seen {
+    pub(crate) number: u64,
+    pub(crate) agrees: bool,
+}
+
 // The answer to the first sample of a trace.
-pub(crate) fn any_step(
-    rt: &impl Print,
-    tally: Tally,
-    at: u64,
-    expected: u64,
-    m: Monitor,
-    table: &[u8],
-    trace: &[u8],
-) -> Tally {
+pub(crate) fn any_step(expected: u64, m: Monitor, table: &[u8], trace: &[u8]) -> Seen {
     let s = monitor::step(table, m, sample_at(trace, 0));
-    let answer = s.answer;
-    let number = answer_number(answer);
+    let number = answer_number(s.answer);
     let stays = same(m, s.monitor);
-    tally.judged(rt, at, expected, number, agrees(expected, number, stays))
+    Seen {
+        number,
+        agrees: agrees(expected, number, stays),
+    }
 }
 
 // Feeds every sample of a trace, whatever the answers; the per-cycle entry gives the same.
