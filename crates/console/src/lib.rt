@@ -7,25 +7,25 @@ ghost use Rattle.std.specs.Prelude.{◌≤◌, ◌≡◌};
 ghost use Rattle.little.specs.Bytes.{u16_at};
 ghost use Rattle.table.specs.Check.{checked_reply, table_reply};
 ghost use Rattle.standing.specs.Standing.{Stands};
-ghost use Rattle.standing.specs.Adding.{StandsBelow};
+ghost use Rattle.standing.specs.Adding.{StandsBelow, with_answer};
 
-use monitor::{Answer, Verdict};
+use monitor::Verdict;
 use standing::{Standing, with_answer};
 use std::io;
-use table::{Checked, Counts, Refusal};
+use table::{Counts, Refusal};
 
 // What `judged` answers: whether all lines were written, and how the properties stand.
 #[derive(Clone, Copy)]
 pub struct Told {
-    pub written: bool,
+    pub written: io::Result<()>,
     pub standing: Standing,
 }
 
 // What `checked` answers: whether all lines were written, and the check's answer.
 #[derive(Clone, Copy)]
 pub struct Examined {
-    pub written: bool,
-    pub answer: Checked,
+    pub written: io::Result<()>,
+    pub answer: Result<Counts, Refusal>,
 }
 
 // A name, a number and the end of the line.
@@ -33,33 +33,15 @@ fn say_count(rt: &impl Print, name: &str, n: u32) -> io::Result<()> {
     println!(rt; "{name} {n}")
 }
 
-fn say_refused(rt: &impl Print, refusal: Refusal) -> io::Result<()> {
-    let Refusal { number, place } = refusal;
-    println!(rt; "refused {number} {place}")
-}
-
-fn say_verdict(rt: &impl Print, property: u32, verdict: Verdict) -> io::Result<()> {
-    match verdict {
-        Verdict::Broken(cycle) => println!(rt; "{property} broken {cycle}"),
-        Verdict::Settled(cycle) => println!(rt; "{property} settled {cycle}"),
-        Verdict::Pending(cycles) => println!(rt; "{property} pending {cycles}"),
-    }
-}
-
-fn say_property(rt: &impl Print, property: u32, answer: Answer) -> io::Result<()> {
+fn say_property(
+    rt: &impl Print,
+    property: u32,
+    answer: Result<Verdict, Refusal>,
+) -> io::Result<()> {
     match answer {
-        Answer::Refused(refusal) => say_refused(rt, refusal),
-        Answer::Given(verdict) => say_verdict(rt, property, verdict),
+        Err(refusal) => println!(rt; "{refusal}"),
+        Ok(verdict) => println!(rt; "{property} {verdict}"),
     }
-}
-
-// The same where all before it was written.
-fn say_next(rt: &impl Print, written: bool, property: u32, answer: Answer) -> bool {
-    written && say_property(rt, property, answer).is_ok()
-}
-
-fn say_cycles(rt: &impl Print, trace: &[u8]) -> io::Result<()> {
-    say_count(rt, "cycles", trace::samples::cycles_of(trace))
 }
 
 fn say_counts(rt: &impl Print, counts: Counts) -> io::Result<()> {
@@ -69,10 +51,27 @@ fn say_counts(rt: &impl Print, counts: Counts) -> io::Result<()> {
     say_count(rt, "properties", u32::from(counts.properties))
 }
 
-fn say_checked(rt: &impl Print, answer: Checked) -> io::Result<()> {
+fn say_checked(rt: &impl Print, answer: Result<Counts, Refusal>) -> io::Result<()> {
     match answer {
-        Checked::Accepted(counts) => say_counts(rt, counts),
-        Checked::Refused(refusal) => say_refused(rt, refusal),
+        Ok(counts) => say_counts(rt, counts),
+        Err(refusal) => println!(rt; "{refusal}"),
+    }
+}
+
+// A property more, told where all before it was written.
+fn with_property(
+    rt: &impl Print,
+    before: Told,
+    property: u32,
+    answer: Result<Verdict, Refusal>,
+) -> Told
+    ensures { result.standing ≡ with_answer before.standing answer }
+{
+    Told {
+        written: before
+            .written
+            .and_then(|()| say_property(rt, property, answer)),
+        standing: with_answer(before.standing, answer),
     }
 }
 
@@ -81,17 +80,12 @@ fn others(rt: &impl Print, table: &[u8], trace: &[u8], first: Told) -> Told
     ensures { 1 ≤ u16_at table.now 6 → StandsBelow table.now trace.now 1 first.standing
         → StandsBelow table.now trace.now (u16_at table.now 6) result.standing }
 {
-    let properties = little::u16_at(table, 6) as u32;
-    let mut written = first.written;
-    let mut standing = first.standing;
-    let mut property: u32 = 1;
-    while property < properties {
-        let answer = trace::judge(table, trace, property);
-        written = say_next(rt, written, property, answer);
-        standing = with_answer(standing, answer);
-        property += 1;
+    let properties = u32::from(little::u16_at(table, 6));
+    let mut told = first;
+    for property in 1..properties {
+        told = with_property(rt, told, property, trace::judge(table, trace, property));
     }
-    Told { written, standing }
+    told
 }
 
 // A refusal of the table or of the trace is one of each property, so the first tells: one line then; else the cycles, and a line for each property.
@@ -99,15 +93,15 @@ pub fn judged(rt: &impl Print, table: &[u8], trace: &[u8]) -> Told
     ensures { Stands table.now trace.now result.standing }
 {
     let first = trace::judge(table, trace, 0);
-    let standing = with_answer(Standing::Settled, first);
-    let Answer::Given(_) = first else {
-        return Told {
-            written: say_property(rt, 0, first).is_ok(),
-            standing,
-        };
+    let mut told = Told {
+        written: Ok(()),
+        standing: Standing::Settled,
     };
-    let written = say_next(rt, say_cycles(rt, trace).is_ok(), 0, first);
-    others(rt, table, trace, Told { written, standing })
+    let Ok(_) = first else {
+        return with_property(rt, told, 0, first);
+    };
+    told.written = say_count(rt, "cycles", trace::samples::cycles_of(trace));
+    others(rt, table, trace, with_property(rt, told, 0, first))
 }
 
 // An accepted table's counts, or the refusal.
@@ -115,6 +109,6 @@ pub fn checked(rt: &impl Print, table: &[u8]) -> Examined
     ensures { checked_reply result.answer ≡ table_reply table.now }
 {
     let answer = table::check(table);
-    let written = say_checked(rt, answer).is_ok();
+    let written = say_checked(rt, answer);
     Examined { written, answer }
 }

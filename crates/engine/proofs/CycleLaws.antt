@@ -1,5 +1,5 @@
 -- A cycle with no left sides or no weak sequences, and what the passes over weak sequences come to.
-use Prim.Native.Nat.{ℕ, ◌-◌, ◌≤◌, ◌<◌, ◌^◌}
+use Prim.Native.Nat.{ℕ, ◌-◌, ◌<◌, ◌^◌}
 use mathlib.Core.Path.{◌≡◌, refl, sym, ◌∙◌, ap, subst}
 use mathlib.Core.Bool.{Bool, true, false, not, ◌&&◌}
 use mathlib.Core.List.{List}
@@ -7,7 +7,6 @@ use mathlib.Core.Logic.{inl, inr, ⊎_elim}
 use native.Mathlib.Omega.{arith}
 use lib.Dec.{T, eqb}
 use lib.Bits.{bit_and, bit_or, and_lt}
-use lib.ListN.{length, get_or}
 use Rattle.psl.specs.Booleans.{bit}
 use Rattle.psl.specs.Tells.{Tells, tells_and, tells_or, tells_eq, tells_iff, tells_value, tells_not_value, tells_true, true_tells}
 use Rattle.words.specs.Bits.{bit_none, bit_and_lem, bit_or_lem}
@@ -17,7 +16,10 @@ use Rattle.lanes.specs.Expected.{Table}
 use Rattle.engine.specs.Reads.{Held, Within}
 use Rattle.engine.specs.declared.properties.Hits.{Hits}
 use Rattle.engine.specs.Sides.{SidesUp, OverSides, SidesDown}
+use Rattle.engine.specs.declared.weak_parts.Parts.{Parts}
+use Rattle.engine.specs.declared.weak_uses.Uses.{Uses}
 use Rattle.engine.specs.WeakParts.{WeaksUp}
+use Rattle.engine.specs.WeakHanded.{Blank}
 use Rattle.engine.specs.WeakPass.{WeaksDown}
 use Rattle.engine.specs.Families.{Moved}
 use Rattle.engine.specs.CycleFlags.{BooleanFails, NoWord}
@@ -46,24 +48,24 @@ none_up t row live sides x lefts hits e = record {
 pub none_down : (row : ℕ → Row) (table : Table row) (live : ℕ → Bool → Bool) (sides x : ℕ) (enter : ℕ → Bool) → sides ≡ 0 → SidesDown row table live sides x enter 0 0
 none_down row table live sides x enter e = record { next_is = λ n h f. no_bit n e h }
 
--- The families that are moved are those that were met, since there are at most 32.
-pub weaks_left : {t : List ℕ} {row : ℕ → Row} {rows : Table row} {booleans weaks truth begin x : ℕ} {live : ℕ → Bool → Bool} {enter : ℕ → Bool} {acts counts tops leads old new : List ℕ} {count few all : ℕ} (empty : List ℕ)
-    → WeaksTold t row booleans weaks truth begin x enter → WeaksUp t booleans weaks truth acts counts → WeaksDown t booleans weaks begin acts counts empty count tops leads
-    → ((i : ℕ) → get_or empty i 0 ≡ 0) → (count ≤ 32 → few ≡ count) → Moved few tops leads old new all → WeaksLeft t row rows weaks x live enter old new all
-weaks_left {t} {row} {rows} {booleans} {weaks} {truth} {begin} {x} {live} {enter} {acts} {counts} empty told up down none same moved =
-    let d = down row rows truth x live enter (told.0 acts counts up) none in
+-- The families that are moved are those that were met.
+pub weaks_left : {t : List ℕ} {row : ℕ → Row} {rows : Table row} {booleans weaks truth begin x : ℕ} {live : ℕ → Bool → Bool} {enter : ℕ → Bool} {parts : Parts} {blank : Uses} (uses : Uses) {old new : List ℕ} {all : ℕ}
+    → WeaksTold t row booleans weaks truth begin x enter → WeaksUp t booleans weaks truth parts → Blank blank → WeaksDown t booleans weaks begin parts blank uses
+    → Moved uses.met uses.tops uses.leads old new all → WeaksLeft t row rows weaks x live enter old new all
+weaks_left {row = row} {rows} {truth = truth} {x = x} {live = live} {enter = enter} {parts = parts} uses told up none down moved =
+    let d = down row rows truth x live enter (told parts up) none in
     weaks_moved (record {
       tops = _;
       leads = _;
       count = _;
-      count_is = same (subst (λ (k : ℕ). k ≤ 32) (sym d.0) told.1) ∙ d.0;
+      count_is = d.0;
       lanes = d.1;
       moved = moved;
     })
 
-pub quiet_tells : (held a b all : ℕ) → Tells (NoWord held a b all) (((eqb held 0 && eqb a 0) && eqb b 0) && eqb all 0)
-quiet_tells held a b all = tells_iff (λ h. (h.0.0.0, h.0.0.1, h.0.1, h.1)) (λ h. (((h.0, h.1), h.2), h.3))
-    (tells_and (tells_and (tells_and (tells_eq held 0) (tells_eq a 0)) (tells_eq b 0)) (tells_eq all 0))
+pub quiet_tells : (held a b all : ℕ) → Tells (NoWord held a b all) ((eqb held 0 && (eqb a 0 && eqb b 0)) && eqb all 0)
+quiet_tells held a b all = tells_iff (λ h. (h.0.0, h.0.1.0, h.0.1.1, h.1)) (λ h. ((h.0, (h.1, h.2)), h.3))
+    (tells_and (tells_and (tells_eq held 0) (tells_and (tells_eq a 0) (tells_eq b 0))) (tells_eq all 0))
 
 pub fails_tells : (begin booleans truth : ℕ) {r : Bool} → begin < 2 ^ 64 → booleans < 2 ^ 64 → truth < 2 ^ 64 → Tells (HasFrom (bit_and (bit_and begin booleans) ((2 ^ 64 - 1) - truth)) 0) r
     → Tells (BooleanFails begin booleans truth) r
@@ -121,5 +123,5 @@ module _ {t : List ℕ} {root booleans sides weaks first held live_a live_b : �
 
 -- so nothing stands where the rows are not all there
 pub no_rows : {t : List ℕ} {root booleans sides weaks first held live_a live_b : ℕ} {families : List ℕ} {r : Bool}
-    → Tells (Within t (bit_or (bit_or (bit_or (bit_or booleans sides) weaks) first) held) × (length families ≡ 32)) r → r ≡ false → ¬ Standing t root booleans sides weaks first held live_a live_b families
-no_rows tells e s = subst T (sym (true_tells tells (standing_there s, s.represented.size)) ∙ e) tt
+    → Tells (Within t (bit_or (bit_or (bit_or (bit_or booleans sides) weaks) first) held)) r → r ≡ false → ¬ Standing t root booleans sides weaks first held live_a live_b families
+no_rows tells e s = subst T (sym (true_tells tells (standing_there s)) ∙ e) tt

@@ -1,6 +1,5 @@
 -- The passes of a cycle, one after another: what each is told comes from the plan and from the passes before it.
 use Prim.Native.Nat.{ℕ, ◌<◌, ◌^◌}
-use native.Mathlib.Omega.{arith}
 use mathlib.Core.Path.{◌≡◌, sym, ◌∙◌, ap}
 use mathlib.Core.Bool.{Bool, ◌||◌}
 use mathlib.Core.List.{List}
@@ -22,7 +21,7 @@ use Rattle.engine.specs.CycleWeaks.{WeaksLeft, no_weaks, weaks_moved, WeaksTold}
 use Rattle.engine.specs.PlanBooleans.{boolean_rows}
 use Rattle.engine.specs.PlanSides.{side_rows, side_users}
 use Rattle.engine.specs.PlanWeaks.{weak_rows, weak_users}
-use Rattle.engine.specs.PlanCount.{at_most_32, few_weaks}
+use Rattle.engine.specs.PlanCount.{few_weaks}
 use Rattle.engine.specs.PlanPass.{property_rows}
 use Rattle.engine.specs.CycleBegins.{sides_enter, weak_enters}
 use Rattle.engine.specs.CycleRight.{SetsLeft, sets_left, no_sets}
@@ -69,16 +68,13 @@ module _ {t : List ℕ} {root booleans sides weaks first held live_a live_b : �
           up.lefts_are
 
       told : WeaksTold t (row_of s) booleans weaks truth begin x entering
-      told = (
-        λ acts counts parts. record {
-          rows = weak_rows t s.counts s.subset root booleans sides weaks s.plan s.root_low truth x right;
-          users = λ n f v h w l. weak_users t s.counts s.subset root booleans sides weaks s.plan s.root_low v w l n f h;
-          enters = weak_enters t s.counts s.subset root booleans sides weaks s.plan s.root_low s.kept s.time x first held s.first_is s.represented.held_is begin held' never passed;
-          few = few_weaks t s.counts s.subset root booleans sides weaks s.plan s.root_low;
-          parts = parts;
-        },
-        at_most_32 t s.counts s.subset root booleans sides weaks s.plan s.root_low 64 (omega arith),
-      )
+      told parts up = record {
+        rows = weak_rows t s.counts s.subset root booleans sides weaks s.plan s.root_low truth x right;
+        users = λ n f v h w l. weak_users t s.counts s.subset root booleans sides weaks s.plan s.root_low v w l n f h;
+        enters = weak_enters t s.counts s.subset root booleans sides weaks s.plan s.root_low s.kept s.time x first held s.first_is s.represented.held_is begin held' never passed;
+        few = few_weaks t s.counts s.subset root booleans sides weaks s.plan s.root_low;
+        parts_up = up;
+      }
 
       sets_of : {new : List ℕ} {rest : ℕ} → WeaksLeft t (row_of s) (table_of s) weaks x s.kept.live entering families new rest → SetsLeft t weaks (next_of s x) families new rest
       sets_of (no_weaks e) = no_sets t s.counts s.subset root booleans sides weaks s.plan s.root_low s.kept s.time x families e

@@ -3,13 +3,12 @@ use Prim.Native.Nat.{ℕ, zero, suc, ◌+◌, ◌-◌, ◌*◌, ◌/◌, ◌%◌
 use native.Mathlib.Nat.{mod-eq_of_lt}
 use native.Mathlib.Omega.{arith}
 use native.Mathlib.Decide.{dec_lt}
-use mathlib.Core.Path.{◌≡◌, refl, sym, ◌∙◌, ap, ap₂}
+use mathlib.Core.Path.{◌≡◌, refl, sym, ◌∙◌, ap, ap₂, subst}
 use mathlib.Core.Bool.{Bool, true, false, not, ◌&&◌, ◌||◌, or-false, and-true, and-false}
 use mathlib.Core.List.{List, [], ◌∷◌}
-use mathlib.Core.Logic.{◌⊎◌, inl, inr}
 use lib.Bits.{bit_or, bit_and}
 use lib.Dec.{T, eqb, ltb}
-use lib.ListN.{get_or, set, length}
+use lib.ListN.{get_or}
 use borrow.Author.Tests.{eq-eqb, ne_eqb, lt-ltb, lt-leb, le-leb}
 use Rattle.psl.specs.Booleans.{bit}
 use Rattle.psl.specs.Tells.{any}
@@ -18,7 +17,6 @@ use Rattle.table.proofs.Laws.Spans.{all_from, every}
 use Rattle.accepted.specs.Shapes.{same, same_eq}
 use Rattle.lanes.specs.SetSteps.{below, below_suc, below_zero, below_all}
 use Rattle.lanes.specs.Families.{word, word_bit, word_lt, no_six, only_six, image}
-use Rattle.engine.specs.Families.{leads_in}
 use Rattle.engine.specs.FamilySteps.{Lacks, Spread, Led, set_of, Leads, threes, image_of, image_by}
 
 -- ---- the sets without a lane
@@ -31,16 +29,43 @@ pub lacks_none : (family ends : ℕ) → Lacks family ends 0 family
 unfolding any
 lacks_none family ends s l = sym (and-true (bit family s))
 
--- where lane n ends, only the sets stay that a mask has: those without lane n
-pub lacks_more : (family ends mask n x y : ℕ) → T (all_from (lane_out mask n) 0 64) → Lacks family ends n x
-    → ((ends / 2 ^ n % 2 ≡ 1) × (y ≡ bit_and x mask)) ⊎ ((ends / 2 ^ n % 2 ≡ 1 → ⊥) × (y ≡ x)) → Lacks family ends (suc n) y
+-- a mask for each of the six lanes
+abbrev pub masks : List ℕ
+masks = 6148914691236517205 ∷ 3689348814741910323 ∷ 1085102592571150095 ∷ 71777214294589695 ∷ 281470681808895 ∷ 4294967295 ∷ []
+
+masks_right : (n : ℕ) → n < 6 → T (all_from (lane_out (get_or masks n 0) n) 0 64)
+masks_right zero l = tt
+masks_right (suc zero) l = tt
+masks_right (suc (suc zero)) l = tt
+masks_right (suc (suc (suc zero))) l = tt
+masks_right (suc (suc (suc (suc zero)))) l = tt
+masks_right (suc (suc (suc (suc (suc zero))))) l = tt
+masks_right (suc (suc (suc (suc (suc (suc n)))))) l = absurd (omega arith)
+
+any_more : (n : ℕ) (f : ℕ → Bool) → any (n + 1) f ≡ f n || any n f
 unfolding any
-lacks_more family ends mask n x y test h cut s l =
-    kept cut ∙ ap (λ (b : Bool). b && not (bit s n && bit ends n)) (h s l)
-    ∙ drop_more (bit family s) (any n (λ l. bit s l && bit ends l)) (bit s n && bit ends n)
+any_more n f = let e : n + 1 ≡ suc n = omega arith in rw e refl
+
+-- where lane n does not end, all sets stay
+pub lacks_same : (family ends n x : ℕ) → bit ends n ≡ false → Lacks family ends n x → Lacks family ends (n + 1) x
+lacks_same family ends n x none h s l = h s l
+    ∙ ap (λ (b : Bool). bit family s && not b) (sym (any_more n _ ∙ ap (λ (b : Bool). b || any n (λ l. bit s l && bit ends l)) (ap (λ (b : Bool). bit s n && b) none ∙ and-false (bit s n))))
+
+-- where it ends, only the sets stay that its mask has: those without it
+pub lacks_cut : (family ends n x : ℕ) → n < 6 → bit ends n ≡ true → Lacks family ends n x → Lacks family ends (n + 1) (bit_and x (get_or masks n 0))
+lacks_cut family ends n x low some h s l =
+    bit_and_lem x mask s ∙ ap₂ ◌&&◌ (h s l) (masked (bit mask s) (bit s n) in_mask) ∙ drop_more (bit family s) (any n (λ l. bit s l && bit ends l)) (bit s n)
+    ∙ ap (λ (b : Bool). bit family s && not b) (sym (any_more n _ ∙ ap (λ (b : Bool). b || any n (λ l. bit s l && bit ends l)) (ap (λ (b : Bool). bit s n && b) some ∙ and-true (bit s n))))
   where
+    mask : ℕ
+    mask = get_or masks n 0
+
     in_mask : not (bit mask s) ≡ bit s n
-    in_mask = same_eq _ _ (every (lane_out mask n) 0 64 test s (omega arith) (omega arith))
+    in_mask = same_eq _ _ (every (lane_out mask n) 0 64 (masks_right n low) s (omega arith) (omega arith))
+
+    masked : (m b : Bool) → not m ≡ b → m ≡ not b
+    masked true b e = ap not e
+    masked false b e = ap not e
 
     drop_more : (f a x : Bool) → (f && not a) && not x ≡ f && not (x || a)
     drop_more true true true = refl
@@ -49,28 +74,15 @@ lacks_more family ends mask n x y test h cut s l =
     drop_more true false false = refl
     drop_more false a x = refl
 
-    masked : (m b : Bool) → not m ≡ b → m ≡ not (b && true)
-    masked true b e = ap (λ (d : Bool). not (d && true)) e
-    masked false b e = ap (λ (d : Bool). not (d && true)) e
-
-    kept : ((ends / 2 ^ n % 2 ≡ 1) × (y ≡ bit_and x mask)) ⊎ ((ends / 2 ^ n % 2 ≡ 1 → ⊥) × (y ≡ x)) → bit y s ≡ bit x s && not (bit s n && bit ends n)
-    kept (inl w) = ap (λ (r : ℕ). bit r s) w.1 ∙ bit_and_lem x mask s
-        ∙ rw (eq-eqb (ends / 2 ^ n % 2) 1 w.0) (ap (λ (b : Bool). bit x s && b) (masked (bit mask s) (bit s n) in_mask))
-    kept (inr w) = ap (λ (r : ℕ). bit r s) w.1 ∙ rw (ne_eqb (ends / 2 ^ n % 2) 1 w.0, and-false (bit s n)) (sym (and-true (bit x s)))
-
 -- where none of three lanes ends, all sets stay
-lacks_same : (family ends n x : ℕ) (mask : ℕ) → T (all_from (lane_out mask n) 0 64) → (ends / 2 ^ n % 2 ≡ 1 → ⊥) → Lacks family ends n x → Lacks family ends (suc n) x
-lacks_same family ends n x mask test none h = lacks_more family ends mask n x x test h (inr (none, refl))
-
-pub lacks_low : (family ends : ℕ) → ends % 8 ≡ 0 → Lacks family ends 3 family
-lacks_low family ends e =
-    lacks_same family ends 2 family 1085102592571150095 tt (λ z. omega arith)
-    (lacks_same family ends 1 family 3689348814741910323 tt (λ z. omega arith) (lacks_same family ends 0 family 6148914691236517205 tt (λ z. omega arith) (lacks_none family ends)))
-
-pub lacks_high : (family ends x : ℕ) → ends / 8 % 8 ≡ 0 → Lacks family ends 3 x → Lacks family ends 6 x
-lacks_high family ends x e h =
-    lacks_same family ends 5 x 4294967295 tt (λ z. omega arith)
-    (lacks_same family ends 4 x 281470681808895 tt (λ z. omega arith) (lacks_same family ends 3 x 71777214294589695 tt (λ z. omega arith) h))
+pub lacks_three : (family ends n x : ℕ) → ends / 2 ^ n % 8 ≡ 0 → Lacks family ends n x → Lacks family ends (n + 3) x
+lacks_three family ends n x e h =
+    let three : n + 1 + 1 + 1 ≡ n + 3 = omega arith in
+    subst (λ (m : ℕ). Lacks family ends m x) three
+    (lacks_same family ends (n + 1 + 1) x (none 2 _ (omega arith) (omega arith)) (lacks_same family ends (n + 1) x (none 1 _ (omega arith) (omega arith)) (lacks_same family ends n x (none 0 _ (omega arith) (omega arith)) h)))
+  where
+    none : (k m : ℕ) → m ≡ n + k → k < 3 → bit ends m ≡ false
+    none k m i l = ap (bit ends) i ∙ sym (bit_shr ends n k) ∙ sym (rw (lt-ltb k 3 l) at (bit_mod (ends / 2 ^ n) 3 k)) ∙ ap (λ (x : ℕ). bit x k) e ∙ bit_none k
 
 -- ---- lanes spread over bytes
 
@@ -103,46 +115,26 @@ led_is lanes q x small h = record { each = each }
 -- ---- a word of bytes: byte l has the cells below n that lane l leads to
 
 module _ (R : ℕ → ℕ → Bool) where
-  abbrev Gathers : ℕ → ℕ → Type 0
+  abbrev pub Gathers : ℕ → ℕ → Type 0
   Gathers n x = (l k : ℕ) → l < 7 → k < 8 → bit x (8 * l + k) ≡ below n (R l) k
 
-  abbrev Lane : ℕ → ℕ → Type 0
+  abbrev pub Lane : ℕ → ℕ → Type 0
   Lane q x = (l k : ℕ) → l < 7 → k < 8 → bit x (8 * l + k) ≡ R l q && eqb k q
 
-  first_cell : (x : ℕ) → Lane 0 x → Gathers 1 x
-  first_cell x h l k i j = h l k i j ∙ ap (λ (b : Bool). b || (R l 0 && eqb k 0)) (sym (below_zero (R l) k)) ∙ sym (below_suc (R l) 0 k)
+  pub next_cell : (n x y : ℕ) → Gathers n x → Lane n y → Gathers (n + 1) (bit_or x y)
+  next_cell n x y g h l k i j = bit_or_lem x y (8 * l + k) ∙ ap₂ ◌||◌ (g l k i j) (h l k i j) ∙ (let e : n + 1 ≡ suc n = omega arith in rw e (sym (below_suc (R l) n k)))
 
-  next_cell : (n x y : ℕ) → Gathers n x → Lane n y → Gathers (suc n) (bit_or x y)
-  next_cell n x y g h l k i j = bit_or_lem x y (8 * l + k) ∙ ap₂ ◌||◌ (g l k i j) (h l k i j) ∙ sym (below_suc (R l) n k)
+  -- before the first cell, one cell more, and all
+  pub gathers_none : Gathers 0 0
+  gathers_none l k i j = bit_none (8 * l + k) ∙ sym (below_zero (R l) k)
 
-  gathered : (x : ℕ) → Gathers 6 x → Leads R x
+  pub gathered : (x : ℕ) → Gathers 6 x → Leads R x
   gathered x g = record {
     each = λ l i. same_bits 6 (set_of x l) (word 6 (R l)) (omega arith) (word_lt (R l) 6) (λ k j.
         bit_mod (x / 2 ^ (8 * l)) 6 k ∙ rw (lt-ltb k 6 j) (bit_shr x (8 * l) k ∙ g l k i (omega arith) ∙ sym (word_bit (R l) 6 k)));
   }
 
-pub turned_is : (leads : List ℕ) (w a b c d e f : ℕ)
-    → Led (get_or leads (8 * w + 0) 0) 0 a → Led (get_or leads (8 * w + 1) 0) 1 b → Led (get_or leads (8 * w + 2) 0) 2 c
-    → Led (get_or leads (8 * w + 3) 0) 3 d → Led (get_or leads (8 * w + 4) 0) 4 e → Led (get_or leads (8 * w + 5) 0) 5 f
-    → Leads (leads_in leads w) (bit_or (bit_or (bit_or (bit_or (bit_or a b) c) d) e) f)
-turned_is leads w a b c d e f u v x y z t = let R = leads_in leads w in
-    gathered R _ (next_cell R 5 _ f (next_cell R 4 _ e (next_cell R 3 _ d (next_cell R 2 _ c (next_cell R 1 a b (first_cell R a u.each) v.each) x.each) y.each) z.each) t.each)
-
 -- ---- the tables of images
-
--- the eight stores
-pub images_are : (x y z : ℕ) (to : List ℕ) → length to ≡ 8
-    → set (set (set (set (set (set (set (set to 0 0) 1 x) 2 y) 3 (bit_or y x)) 4 z) 5 (bit_or z x)) 6 (bit_or z y)) 7 (bit_or z (bit_or y x)) ≡ threes x y z
-images_are x y z (a ∷ b ∷ c ∷ d ∷ e ∷ f ∷ g ∷ h ∷ []) l = refl
-images_are x y z [] l = absurd (omega arith)
-images_are x y z (a ∷ []) l = absurd (omega arith)
-images_are x y z (a ∷ b ∷ []) l = absurd (omega arith)
-images_are x y z (a ∷ b ∷ c ∷ []) l = absurd (omega arith)
-images_are x y z (a ∷ b ∷ c ∷ d ∷ []) l = absurd (omega arith)
-images_are x y z (a ∷ b ∷ c ∷ d ∷ e ∷ []) l = absurd (omega arith)
-images_are x y z (a ∷ b ∷ c ∷ d ∷ e ∷ f ∷ []) l = absurd (omega arith)
-images_are x y z (a ∷ b ∷ c ∷ d ∷ e ∷ f ∷ g ∷ []) l = absurd (omega arith)
-images_are x y z (a ∷ b ∷ c ∷ d ∷ e ∷ f ∷ g ∷ h ∷ i ∷ rest) l = absurd (omega arith)
 
 -- bit k of the entry of three cells: the cells of i that lead to k
 three_bit : (x y z i k : ℕ) → i < 8 → bit (get_or (threes x y z) i 0) k ≡ (bit i 2 && bit z k) || ((bit i 1 && bit y k) || ((bit i 0 && bit x k) || false))

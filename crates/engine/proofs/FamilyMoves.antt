@@ -55,13 +55,11 @@ walk_end h = record { has = left_end h.done; only = h.only }
 pub walk_none : (to : ℕ → ℕ) → Walked to 0 0
 walk_none to = record { has = λ p e. absurd (clash e (bit_none p)); only = λ s e. absurd (clash e (bit_none s)) }
 
--- the tables of the sets
-pub moved_is : (sets x y z u v w : ℕ) (low high : List ℕ) (family r : ℕ) → low ≡ threes x y z → high ≡ threes u v w
-    → x ≡ set_of sets 0 → y ≡ set_of sets 1 → z ≡ set_of sets 2 → u ≡ set_of sets 3 → v ≡ set_of sets 4 → w ≡ set_of sets 5
-    → Walked (image_of low high) family r → Walked (image_by sets) family r
+-- by the tables of the sets
+pub moved_is : (sets : ℕ) (low high : List ℕ) (family r : ℕ) → low ≡ threes (set_of sets 0) (set_of sets 1) (set_of sets 2)
+    → high ≡ threes (set_of sets 3) (set_of sets 4) (set_of sets 5) → Walked (image_of low high) family r → Walked (image_by sets) family r
 unfolding image_by
-moved_is sets x y z u v w low high family r a b e₀ e₁ e₂ e₃ e₄ e₅ h =
-    subst (λ (to : ℕ → ℕ). Walked to family r) ((λ i. image_of (a i) (b i)) ∙ (λ i. image_of (threes (e₀ i) (e₁ i) (e₂ i)) (threes (e₃ i) (e₄ i) (e₅ i)))) h
+moved_is sets low high family r a b h = subst (λ (to : ℕ → ℕ). Walked to family r) (λ i. image_of (a i) (b i)) h
 
 -- ---- one family
 

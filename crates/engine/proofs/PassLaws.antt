@@ -3,7 +3,7 @@ use Prim.Native.Nat.{ℕ, zero, suc, ◌≤◌, ◌<◌}
 use native.Mathlib.Omega.{arith}
 use native.Mathlib.Decide.{dec_lt}
 use mathlib.Core.Path.{◌≡◌, refl, sym, ◌∙◌, ap, ap₂, subst, fun_ext}
-use mathlib.Core.Bool.{Bool, true, false, not, ◌&&◌, ◌||◌}
+use mathlib.Core.Bool.{Bool, true, false, not, ◌&&◌, ◌||◌, or-false, and-true, and-false}
 use mathlib.Core.List.{List}
 use mathlib.Core.Logic.{◌⊎◌, inl, inr}
 use lib.Dec.{ltb}
@@ -24,14 +24,6 @@ use Rattle.engine.specs.declared.properties.Letter.{Letter}
 use Rattle.engine.specs.declared.properties.Pass.{Pass}
 use Rattle.engine.proofs.TruthLaws.{clash}
 use Rattle.engine.proofs.StepLaws.{breaks, breaks_never, never_breaks, Quiet, inert_quiet, Does, sends_lower, sends_reached, idle_quiet, visit_does, either}
-
-or-false : (b : Bool) → b || false ≡ b
-or-false true = refl
-or-false false = refl
-
-and-true : (b : Bool) → b && true ≡ b
-and-true true = refl
-and-true false = refl
 
 and_none : (a b : Bool) → a || (b && false) ≡ a
 and_none a true = or-false a
@@ -151,10 +143,6 @@ idle true b c false e f = clash refl e
 idle false true c false e f = clash refl e
 idle false false true false e f = clash refl e
 
-both_none : (b : Bool) → b && false ≡ false
-both_none true = refl
-both_none false = refl
-
 pub parts : (a b : Bool) → a && not b ≡ true → (a ≡ true) × (b ≡ false)
 parts true true e = clash e refl
 parts true false e = (refl, refl)
@@ -186,7 +174,7 @@ module _ (t : List ℕ) (leaves first : ℕ) (l : Letter) (x root : ℕ) (node :
         go true er false ev =
             let z = idle (s.begin k) (bit l.was k) (bit l.hits.ends k) (bit leaves k) e ev in
             rw (z.0, z.1) (idle_quiet (rows.row k er ev) (hit k false)
-            (λ h. rows.hits k er ev h false ∙ rw (z.1, z.2, entered_none (use_of (node k))) (both_none (bit l.hits.early k || bit l.truth (a_of t k)))))
+            (λ h. rows.hits k er ev h false ∙ rw (z.1, z.2, entered_none (use_of (node k))) (and-false (bit l.hits.early k || bit l.truth (a_of t k)))))
 
     -- a row that is visited is reached, and no leaf
     seen : (s : Stage) (k : ℕ) → ((j : ℕ) → s.begin j ≡ true → reached j ≡ true)

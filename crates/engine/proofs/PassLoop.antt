@@ -4,7 +4,7 @@ use native.Mathlib.Nat.{mod-eq_of_lt}
 use native.Mathlib.Omega.{arith}
 use native.Mathlib.Decide.{dec_lt}
 use mathlib.Core.Path.{◌≡◌, refl, sym, ◌∙◌, ap, ap₂}
-use mathlib.Core.Bool.{Bool, true, false, not, ◌&&◌, ◌||◌}
+use mathlib.Core.Bool.{Bool, true, false, not, ◌&&◌, ◌||◌, and-false, and-true}
 use mathlib.Core.List.{List}
 use lib.Dec.{eqb, ltb}
 use borrow.Author.Tests.{lt-ltb, le-ltb, eq-eqb, ne_eqb}
@@ -12,6 +12,7 @@ use Rattle.psl.specs.Booleans.{bit}
 use Rattle.psl.proofs.Model.Nodes.{Node}
 use Rattle.words.specs.Bits.{fewer_bits}
 use Rattle.words.specs.Sets.{Highest, WithoutBit}
+use Rattle.words.specs.Walk.{Turn}
 use Rattle.engine.specs.Reads.{Held, Within}
 use Rattle.engine.specs.Properties.{PropertyRows, Passed, Visits}
 use Rattle.engine.specs.PropertyVisits.{stage_of, visit_at, called, visited, Visitable}
@@ -26,20 +27,15 @@ pub record GoingAhead (t : List ℕ) (leaves first : ℕ) (l : Letter) (x root :
   pub going : Going t leaves first l x root node reached hit p left
   pub low : (k : ℕ) → k < going.from → Held t k → bit leaves k ≡ false → bit ahead k ≡ true
 
-pub record Loop (t : List ℕ) (leaves first : ℕ) (l : Letter) (p : Pass) (ahead left : ℕ) : Type 0 where
+-- What is left are the rows ahead that are called.
+abbrev pub LeftIs : Letter → Pass → ℕ → ℕ → Type 0
+LeftIs l p ahead left = (k : ℕ) → bit left k ≡ called p.begin l.was l.hits.ends k && bit ahead k
+
+pub record Loop (t : List ℕ) (leaves first : ℕ) (l : Letter) (p : Pass) (ahead : ℕ) : Type 0 where
   pub within : Within t ahead
   pub no_leaf : (k : ℕ) → bit ahead k ≡ true → bit leaves k ≡ false
-  pub left_is : (k : ℕ) → bit left k ≡ called p.begin l.was l.hits.ends k && bit ahead k
-  pub goes : (x root : ℕ) (node : ℕ → Node) (reached : ℕ → Bool) (hit : ℕ → Bool → Bool)
+  pub goes : (left : ℕ) → LeftIs l p ahead left → (x root : ℕ) (node : ℕ → Node) (reached : ℕ → Bool) (hit : ℕ → Bool → Bool)
       → PropertyRows t leaves first l x root node reached hit → GoingAhead t leaves first l x root node reached hit p ahead left
-
-and-false : (b : Bool) → b && false ≡ false
-and-false true = refl
-and-false false = refl
-
-and-true : (b : Bool) → b && true ≡ b
-and-true true = refl
-and-true false = refl
 
 -- where a row is ahead unless it is a leaf, what is left is what is visited
 ahead_is : (leaves ahead k : ℕ) → ((k : ℕ) → bit ahead k ≡ true → bit leaves k ≡ false) → (bit leaves k ≡ false → bit ahead k ≡ true) → bit ahead k ≡ not (bit leaves k)
@@ -54,19 +50,13 @@ ahead_is leaves ahead k none all = go (bit leaves k) refl
     go false e = all e
 
 module _ {t : List ℕ} {leaves first : ℕ} {l : Letter} where
-  pub loop_start : (ahead left : ℕ) → Visits t leaves first l.was l.hits.ends → Visitable t leaves ahead → ((k : ℕ) → bit left k ≡ called first l.was l.hits.ends k && bit ahead k)
-      → Loop t leaves first l (record { begin = first; held = 0; broken = false }) ahead left
-  loop_start ahead left there v is = record {
-    within = v.in_bytes;
-    no_leaf = v.no_leaf;
-    left_is = is;
-    goes = start;
-  }
+  pub loop_start : (ahead : ℕ) → Visits t leaves first l.was l.hits.ends → Visitable t leaves ahead → Loop t leaves first l (record { begin = first; held = 0; broken = false }) ahead
+  loop_start ahead there v = record { within = v.in_bytes; no_leaf = v.no_leaf; goes = start }
     where
-      start : (x root : ℕ) (node : ℕ → Node) (reached : ℕ → Bool) (hit : ℕ → Bool → Bool)
+      start : (left : ℕ) → LeftIs l (record { begin = first; held = 0; broken = false }) ahead left → (x root : ℕ) (node : ℕ → Node) (reached : ℕ → Bool) (hit : ℕ → Bool → Bool)
           → PropertyRows t leaves first l x root node reached hit
           → GoingAhead t leaves first l x root node reached hit (record { begin = first; held = 0; broken = false }) ahead left
-      start x root node reached hit rows = record {
+      start left is x root node reached hit rows = record {
         going = going_start t leaves first l x root node reached hit rows left (λ k. is k ∙ same k (called first l.was l.hits.ends k) refl);
         low = λ k a h e. v.all k (omega (arith, rows.root_low, start_from t leaves first l x root node reached hit rows left (λ k. is k ∙ same k (called first l.was l.hits.ends k) refl))) h e;
       }
@@ -80,9 +70,12 @@ module _ {t : List ℕ} {leaves first : ℕ} {l : Letter} where
           same k false e = refl
 
   -- n is taken
-  module _ {p : Pass} {ahead left : ℕ} (loop : Loop t leaves first l p ahead left) (some : 0 < left) {n : ℕ} (high : Highest left n) where
+  module _ {p : Pass} {ahead left : ℕ} (loop : Loop t leaves first l p ahead) (left_is : LeftIs l p ahead left) {n taken : ℕ} (turn : Turn left n taken) (high : Highest left n) where
+    some : 0 < left
+    some = let h = turn.less in omega arith
+
     ahead_here : bit ahead n ≡ true
-    ahead_here = (and_parts (called p.begin l.was l.hits.ends n) (bit ahead n) (sym (loop.left_is n) ∙ high.set some)).1
+    ahead_here = (and_parts (called p.begin l.was l.hits.ends n) (bit ahead n) (sym (left_is n) ∙ high.set some)).1
 
     pub held_here : Held t n
     held_here = loop.within n ahead_here
@@ -103,11 +96,11 @@ module _ {t : List ℕ} {leaves first : ℕ} {l : Letter} where
       pub loop_less : ahead < 2 ^ 64 → rest < 2 ^ 64 → rest < ahead
       loop_less fits fits' = fewer_bits 64 rest ahead n fits' fits still gone ahead_here
 
-      module _ (r : Pass) (word : ℕ) (step : stage_of r ≡ visit_at t n l (stage_of p)) (is : (k : ℕ) → bit word k ≡ called r.begin l.was l.hits.ends k && bit rest k)
+      module _ (r : Pass) (step : stage_of r ≡ visit_at t n l (stage_of p)) (word : ℕ) (is : LeftIs l r rest word)
           (x root : ℕ) (node : ℕ → Node) (reached : ℕ → Bool) (hit : ℕ → Bool → Bool)
           (rows : PropertyRows t leaves first l x root node reached hit) where
         abbrev g : GoingAhead t leaves first l x root node reached hit p ahead left
-        g = loop.goes x root node reached hit rows
+        g = loop.goes left left_is x root node reached hit rows
 
         below : (k : ℕ) → k < n → k < g.going.from
         below k a = let u = under t leaves first l x root node reached hit rows g.going some high in omega arith
@@ -121,7 +114,7 @@ module _ {t : List ℕ} {leaves first : ℕ} {l : Letter} where
         none k a = elim (dec_lt n k) [
           | yes b ↦
               ap₂ (λ (c d : Bool). ((c || bit l.was k) || bit l.hits.ends k) && d) (begin_above t leaves first l x root node reached hit rows g.going some high r step k a) (other k (λ z. omega arith))
-              ∙ sym (loop.left_is k) ∙ high.above k b
+              ∙ sym (left_is k) ∙ high.above k b
           | no b ↦ (let e : k ≡ n = omega arith in rw e (ap (λ (c : Bool). called r.begin l.was l.hits.ends n && c) gone ∙ and-false (called r.begin l.was l.hits.ends n)))
         ]
 
@@ -148,15 +141,13 @@ module _ {t : List ℕ} {leaves first : ℕ} {l : Letter} where
           low = λ k a h e. let b = less k a in other k (λ z. omega arith) ∙ g.low k (below k b) h e;
         }
 
-      pub loop_turn : {r : Pass} (word : ℕ) → stage_of r ≡ visit_at t n l (stage_of p) → ((k : ℕ) → bit word k ≡ called r.begin l.was l.hits.ends k && bit rest k)
-          → Loop t leaves first l r rest word
-      loop_turn {r} word step is = record {
+      pub loop_turn : {r : Pass} → stage_of r ≡ visit_at t n l (stage_of p) → Loop t leaves first l r rest
+      loop_turn {r} step = record {
         within = λ k e. loop.within k (still k e);
         no_leaf = λ k e. loop.no_leaf k (still k e);
-        left_is = is;
-        goes = turned r word step is;
+        goes = turned r step;
       }
 
-  pub loop_end : {p : Pass} {ahead left : ℕ} → left ≡ 0 → Loop t leaves first l p ahead left → (x root : ℕ) (node : ℕ → Node) (reached : ℕ → Bool) (hit : ℕ → Bool → Bool)
+  pub loop_end : {p : Pass} {ahead left : ℕ} → left ≡ 0 → Loop t leaves first l p ahead → LeftIs l p ahead left → (x root : ℕ) (node : ℕ → Node) (reached : ℕ → Bool) (hit : ℕ → Bool → Bool)
       → PropertyRows t leaves first l x root node reached hit → Passed first l.was x root node hit p.begin p.held p.broken
-  loop_end e loop x root node reached hit rows = going_end t leaves first l x root node reached hit rows (rw e at (loop.goes x root node reached hit rows).going)
+  loop_end e loop is x root node reached hit rows = going_end t leaves first l x root node reached hit rows (rw e at (loop.goes _ is x root node reached hit rows).going)

@@ -4,15 +4,16 @@ use native.Mathlib.Omega.{arith}
 use native.Mathlib.Decide.{dec_lt}
 use native.Mathlib.Nat.{mod-eq_of_lt}
 use mathlib.Core.Path.{◌≡◌, refl, sym, ◌∙◌, ap, subst}
-use mathlib.Core.Bool.{Bool, true, false, not, ◌&&◌, ◌||◌}
+use mathlib.Core.Bool.{Bool, true, false, not, ◌&&◌, ◌||◌, and-true}
 use mathlib.Core.List.{List}
 use mathlib.Core.Logic.{◌⊎◌, inl, inr, ⊎_elim}
-use borrow.Author.Tests.{eqb-true, eq-eqb, ne_eqb, lt-ltb, le-ltb}
+use borrow.Author.Tests.{eqb-true, eq-eqb, ne_eqb, lt-ltb}
 use lib.Bits.{bit_and}
 use lib.Dec.{T, eqb, ltb, leb}
 use Rattle.psl.specs.Booleans.{bit}
 use Rattle.words.specs.Sets.{WithBit}
 use Rattle.words.specs.Bits.{bit_none, bit_and_lem, bit_not, set_below}
+use Rattle.words.specs.Walk.{Turn, rest_in}
 use Rattle.table.specs.Kinds.{takes_of, fields_by, fields_of}
 use Rattle.table.specs.Rows.{row_at}
 use Rattle.table.specs.Subset.{Field, field_a, field_b, field_c, value_in, holds_in, IsOperand, holds_at, value_at, kind_at, Subset}
@@ -24,6 +25,7 @@ use Rattle.table.specs.declared.Counts.{Counts}
 use Rattle.table.specs.declared.kinds.Holds.{Holds}
 use Rattle.table.specs.declared.kinds.Holds.TheVariants.{Nothing, Signal, B, Q, F}
 use Rattle.engine.specs.Reached.{follows, Leads, Joined, Comes, Spread, is_chosen}
+use Rattle.engine.proofs.TruthLaws.{set_here, set_other}
 
 -- ---- Booleans
 
@@ -223,50 +225,54 @@ chosen_is t low high left n row kind e q =
     ap (λ (k : ℕ). (leb low row.kind && leb row.kind high) && leb left k) q
     ∙ ap (λ (r : Row). (leb low r.kind && leb r.kind high) && leb left (kind_at t r.a)) e
 
--- Of the numbers below n.
-pub record Chosen (rows : ℕ) (test : ℕ → Bool) (n r : ℕ) : Type 0 where
-  pub each : (k : ℕ) → bit r k ≡ ltb k n && (bit rows k && test k)
+-- Of the rows that are not left.
+pub record Chosen (rows : ℕ) (test : ℕ → Bool) (left r : ℕ) : Type 0 where
+  pub within : (k : ℕ) → bit left k ≡ true → bit rows k ≡ true
+  pub each : (k : ℕ) → bit r k ≡ (bit rows k && not (bit left k)) && test k
 
 module _ (rows : ℕ) (test : ℕ → Bool) where
-  pub chosen_start : Chosen rows test 0 0
-  chosen_start = record { each = λ k. bit_none k ∙ ap (λ (b : Bool). b && (bit rows k && test k)) (sym (le-ltb k 0 (omega arith))) }
-
-  pub chosen_turn : (n : ℕ) {x r : ℕ} → n < 64 → Chosen rows test n x → WithBit x n (bit rows (n % 64) && test n) r → Chosen rows test (n + 1) r
-  chosen_turn n {x} {r} l s w = record { each = λ k. w.each k ∙ ap (λ (b : Bool). b || ((bit rows (n % 64) && test n) && eqb k (n % 64))) (s.each k) ∙ here k }
+  pub chosen_start : Chosen rows test rows 0
+  chosen_start = record { within = λ k e. e; each = λ k. bit_none k ∙ none (bit rows k) (test k) }
     where
-      same : n % 64 ≡ n
-      same = mod-eq_of_lt l
+      none : (b c : Bool) → false ≡ (b && not b) && c
+      none true c = refl
+      none false c = refl
 
-      add_false : (a b : Bool) → b ≡ false → a || b ≡ a
-      add_false true b e = refl
-      add_false false b e = e
-
-      and-false : (a b : Bool) → b ≡ false → a && b ≡ false
-      and-false true b e = e
-      and-false false b e = refl
-
-      and-true : (a : Bool) → a && true ≡ a
-      and-true true = refl
-      and-true false = refl
-
-      here : (k : ℕ) → (ltb k n && (bit rows k && test k)) || ((bit rows (n % 64) && test n) && eqb k (n % 64)) ≡ ltb k (n + 1) && (bit rows k && test k)
-      here k = elim (dec_lt k n) [
-        | yes g ↦ rw (same, lt-ltb k n g, lt-ltb k (n + 1) (omega arith), ne_eqb k n (λ q. omega arith))
-            (add_false (bit rows k && test k) ((bit rows n && test n) && false) (and-false (bit rows n && test n) false refl))
-        | no g ↦ elim (dec_lt n k) [
-          | yes i ↦ rw (same, le-ltb k n (omega arith), le-ltb k (n + 1) (omega arith), ne_eqb k n (λ q. omega arith)) (and-false (bit rows n && test n) false refl)
-          | no i ↦ (let q : k ≡ n = omega arith in
-              rw (q, same, le-ltb n n (omega arith), lt-ltb n (n + 1) (omega arith), eq-eqb n n refl) (and-true (bit rows n && test n)))
-        ]
+  pub chosen_turn : {left n rest x r : ℕ} → Chosen rows test left x → Turn left n rest → WithBit x n (test n) r → Chosen rows test rest r
+  chosen_turn {left} {n} {rest} {x} {r} s t w = record {
+    within = λ k e. s.within k (rest_in t k e).0;
+    each = λ k. elim (dec_lt k n) [
+      | yes l ↦ other k (λ e. omega arith)
+      | no l ↦ elim (dec_lt n k) [
+        | yes g ↦ other k (λ e. omega arith)
+        | no g ↦ (let e : k ≡ n = omega arith in subst (λ (k : ℕ). bit r k ≡ (bit rows k && not (bit rest k)) && test k) (sym e) here)
       ]
-
-  pub chosen_end : {n r : ℕ} → rows < 2 ^ 64 → 64 ≤ n → Chosen rows test n r → (k : ℕ) → bit r k ≡ bit rows k && test k
-  chosen_end {n} fits l s k = s.each k ∙ drops (ltb k n) (bit rows k) (test k) (λ e. lt-ltb k n (let h = set_below 64 rows k fits e in omega arith))
+    ];
+  }
     where
-      drops : (a b d : Bool) → (b ≡ true → a ≡ true) → a && (b && d) ≡ b && d
-      drops a true d h = rw (h refl)
-      drops true false d h = refl
-      drops false false d h = refl
+      gone : (b c : Bool) → c ≡ true → b && not c ≡ false
+      gone true c e = ap not e
+      gone false c e = refl
+
+      stays : (b c : Bool) → c ≡ false → b && not c ≡ b
+      stays true c e = ap not e
+      stays false c e = refl
+
+      hidden : (a b c : Bool) → b ≡ true → (a && not b) && c ≡ false
+      hidden true b c e = rw e refl
+      hidden false b c e = refl
+
+      shown : (a b c : Bool) → a ≡ true → b ≡ false → (a && not b) && c ≡ c
+      shown a b c e f = rw (e, f) refl
+
+      here : bit r n ≡ (bit rows n && not (bit rest n)) && test n
+      here = set_here t.small w (s.each n ∙ hidden (bit rows n) (bit left n) (test n) t.set) ∙ sym (shown (bit rows n) (bit rest n) (test n) (s.within n t.set) (t.each n ∙ gone (bit left n) (eqb n n) (eq-eqb n n refl)))
+
+      other : (k : ℕ) → (k ≡ n → ⊥) → bit r k ≡ (bit rows k && not (bit rest k)) && test k
+      other k e = set_other t.small w k e ∙ s.each k ∙ ap (λ (b : Bool). (bit rows k && not b) && test k) (sym (t.each k ∙ stays (bit left k) (eqb k n) (ne_eqb k n e)))
+
+  pub chosen_end : {r : ℕ} → Chosen rows test 0 r → (k : ℕ) → bit r k ≡ bit rows k && test k
+  chosen_end s k = s.each k ∙ ap (λ (b : Bool). (bit rows k && not b) && test k) (bit_none k) ∙ ap (λ (b : Bool). b && test k) (and-true (bit rows k))
 
 -- ---- the rows of one set that are not in another
 

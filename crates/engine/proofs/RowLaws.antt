@@ -1,5 +1,5 @@
 -- Where the fields of a row stand, and which rows the bytes hold.
-use Prim.Native.Nat.{ℕ, ◌+◌, ◌-◌, ◌*◌, ◌/◌, ◌%◌, ◌^◌, ◌≤◌, ◌<◌}
+use Prim.Native.Nat.{ℕ, ◌-◌, ◌*◌, ◌/◌, ◌%◌, ◌^◌, ◌≤◌, ◌<◌}
 use native.Mathlib.Nat.{one-mul}
 use native.Mathlib.Omega.{arith}
 use mathlib.Core.Path.{◌≡◌, refl, sym, ◌∙◌, ap, ap₂, subst}
@@ -7,32 +7,14 @@ use mathlib.Core.Bool.{Bool, true, false, not, ◌&&◌}
 use mathlib.Core.List.{List}
 use lib.Bits.{bit_and, and_lt}
 use lib.Dec.{eqb, ltb}
-use lib.ListN.{length, get_or}
+use lib.ListN.{length}
 use lib.Pow.{shl_exact, pow_pos, ones_sub-lt}
 use borrow.Author.Tests.{lt-ltb, ltb-true}
 use Rattle.psl.specs.Booleans.{bit}
 use Rattle.psl.specs.Tells.{Tells, tells_iff, tells_eq}
-use Rattle.table.specs.Rows.{row_at, edge_row}
 use Rattle.words.specs.Bits.{bit_none, bit_and_lem, bit_not, bit_ones, set_below, no_bits}
-use Rattle.engine.specs.Reads.{kind_of, a_of, b_of, c_of, Held, Within, HeldRows}
+use Rattle.engine.specs.Reads.{Held, Within, HeldRows}
 use Rattle.engine.proofs.SideRowLaws.{clash}
-
-module _ (t : List ℕ) (n : ℕ) where
-  pub kind_read : get_or t (16 + 4 * n) 0 ≡ kind_of t n
-  unfolding row_at edge_row
-  kind_read = refl
-
-  pub a_read : get_or t (17 + 4 * n) 0 ≡ a_of t n
-  unfolding row_at edge_row
-  a_read = let e : 17 + 4 * n ≡ 16 + 4 * n + 1 = omega arith in ap (λ (k : ℕ). get_or t k 0) e
-
-  pub b_read : get_or t (18 + 4 * n) 0 ≡ b_of t n
-  unfolding row_at edge_row
-  b_read = let e : 18 + 4 * n ≡ 16 + 4 * n + 2 = omega arith in ap (λ (k : ℕ). get_or t k 0) e
-
-  pub c_read : get_or t (19 + 4 * n) 0 ≡ c_of t n
-  unfolding row_at edge_row
-  c_read = let e : 19 + 4 * n ≡ 16 + 4 * n + 3 = omega arith in ap (λ (k : ℕ). get_or t k 0) e
 
 -- ---- the rows that the bytes hold
 

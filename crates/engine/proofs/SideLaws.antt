@@ -1,6 +1,5 @@
 -- The numbers of a part and of a use in lane 7 under each operation of the code: one computed test over the flags for each.
-use Prim.Native.Nat.{ℕ, ◌+◌, ◌*◌, ◌/◌, ◌%◌, ◌^◌, ◌≤◌, ◌<◌}
-use native.Mathlib.Omega.{arith}
+use Prim.Native.Nat.{ℕ, ◌+◌, ◌*◌, ◌/◌, ◌%◌, ◌^◌}
 use mathlib.Core.Path.{◌≡◌, refl, sym, ◌∙◌, ap, subst}
 use mathlib.Core.Bool.{Bool, true, false, not, ◌&&◌, ◌||◌}
 use mathlib.Core.List.{List}
@@ -8,11 +7,10 @@ use lib.Bits.{bit_or, bit_and}
 use lib.Dec.{T, eqb, eqb→eq}
 use lib.ListN.{length, length-set}
 use Rattle.psl.specs.Booleans.{bit}
-use Rattle.lanes.specs.UpPass.{Part, cell_part, then_part, fuse_part, alt_part, loop_part}
-use Rattle.lanes.specs.Uses.{Use, ended_lanes, then_use, fuse_use, loop_use}
+use Rattle.lanes.specs.UpPass.{Part, cell_part, then_part, fuse_part}
+use Rattle.lanes.specs.Uses.{Use, ended_lanes, then_use}
 use Rattle.engine.specs.Sides.{one_if, side_code, use_code}
-use Rattle.engine.specs.Reads.{kind_of}
-use Rattle.engine.specs.SideSteps.{has, Seen, SecondOf, Pair, Loop, PartOf, Right, Handed}
+use Rattle.engine.specs.SideSteps.{has, Seen, Handed}
 
 -- ---- a test at each Boolean
 
@@ -35,10 +33,6 @@ every3 f h a b c = every (f a b) (every (λ b. both (λ c. f a b c)) (every (λ 
 
 every6 : (f : Bool → Bool → Bool → Bool → Bool → Bool → Bool) → T (both3 (λ a b c. both3 (λ d e g. f a b c d e g))) → (a b c d e g : Bool) → T (f a b c d e g)
 every6 f h a b c = every3 (f a b c) (every3 (λ a b c. both3 (λ d e g. f a b c d e g)) h a b c)
-
-so : (p q : Bool) → T (not p || q) → p ≡ true → T q
-so true q h e = h
-so false q h e = absurd (subst T (sym e) tt)
 
 -- ---- the flags of a part: early, ends, empty; of a use: into, go
 
@@ -101,14 +95,6 @@ module _ {part : ℕ} where
       go false = refl
 
 module _ (x y : Part) where
-  -- where neither can be empty
-  pub then_first : bit_and (bit_or (side_code x) (side_code y)) 4 ≡ 0 → bit_and (side_code y) 2 ≡ side_code (then_part x y)
-  then_first none = eqb→eq _ _
-      (so (eqb (bit_and (bit_or (side_code x) (side_code y)) 4) 0) _ (every6 test tt x.early (x.ends 7) x.empty y.early (y.ends 7) y.empty) (rw none refl))
-    where
-      test : Bool → Bool → Bool → Bool → Bool → Bool → Bool
-      test a b c d e f = not (eqb (bit_and (bit_or (code a b c) (code d e f)) 4) 0) || eqb (bit_and (code d e f) 2) (code ((a && f) || (c && d)) (e || (f && b)) (c && f))
-
   pub then_last : bit_or (bit_or (bit_and (side_code y) (bit_or 2 (bit_and (side_code x) 4 / 2 ^ 2))) (one_if (has 4 (side_code y)) (bit_and (side_code x) 3))) (bit_and (bit_and (side_code x) (side_code y)) 4)
       ≡ side_code (then_part x y)
   then_last = eqb→eq _ _ (every6 test tt x.early (x.ends 7) x.empty y.early (y.ends 7) y.empty)
@@ -119,17 +105,6 @@ module _ (x y : Part) where
       test : Bool → Bool → Bool → Bool → Bool → Bool → Bool
       test a b c d e f = eqb (number (code a b c) (code d e f)) (code ((a && f) || (c && d)) (e || (f && b)) (c && f))
 
-  -- where the second is an expected cell
-  pub then_cell : (on : Bool) → one_if on 3 ≡ side_code y → one_if on (bit_or 2 (bit_and (side_code x) 4 / 2 ^ 2)) ≡ side_code (then_part x y)
-  then_cell true e = eqb→eq _ _ (so (eqb 3 (side_code y)) _ (every6 test tt x.early (x.ends 7) x.empty y.early (y.ends 7) y.empty) (rw (← e) refl))
-    where
-      test : Bool → Bool → Bool → Bool → Bool → Bool → Bool
-      test a b c d e f = not (eqb 3 (code d e f)) || eqb (bit_or 2 (bit_and (code a b c) 4 / 2 ^ 2)) (code ((a && f) || (c && d)) (e || (f && b)) (c && f))
-  then_cell false e = eqb→eq _ _ (so (eqb 0 (side_code y)) _ (every6 test tt x.early (x.ends 7) x.empty y.early (y.ends 7) y.empty) (rw (← e) refl))
-    where
-      test : Bool → Bool → Bool → Bool → Bool → Bool → Bool
-      test a b c d e f = not (eqb 0 (code d e f)) || eqb 0 (code ((a && f) || (c && d)) (e || (f && b)) (c && f))
-
   pub fuse_is : bit_or (bit_and (side_code y) 2) (one_if (has 1 (side_code y)) (bit_and (side_code x) 3)) ≡ side_code (fuse_part x y)
   fuse_is = eqb→eq _ _ (every6 test tt x.early (x.ends 7) x.empty y.early (y.ends 7) y.empty)
     where
@@ -138,25 +113,6 @@ module _ (x y : Part) where
 
       test : Bool → Bool → Bool → Bool → Bool → Bool → Bool
       test a b c d e f = eqb (number (code a b c) (code d e f)) (code (a && d) (e || (d && b)) false)
-
-  pub alt_is : bit_or (side_code x) (side_code y) ≡ side_code (alt_part x y)
-  alt_is = eqb→eq _ _ (every6 test tt x.early (x.ends 7) x.empty y.early (y.ends 7) y.empty)
-    where
-      test : Bool → Bool → Bool → Bool → Bool → Bool → Bool
-      test a b c d e f = eqb (bit_or (code a b c) (code d e f)) (code (a || d) (e || b) (c || f))
-
-module _ (x : Part) where
-  pub star_is : bit_or (side_code x) 4 ≡ side_code (loop_part true x)
-  star_is = eqb→eq _ _ (every3 test tt x.early (x.ends 7) x.empty)
-    where
-      test : Bool → Bool → Bool → Bool
-      test a b c = eqb (bit_or (code a b c) 4) (code a b (c || true))
-
-  pub plus_is : side_code x ≡ side_code (loop_part false x)
-  plus_is = eqb→eq _ _ (every3 test tt x.early (x.ends 7) x.empty)
-    where
-      test : Bool → Bool → Bool → Bool
-      test a b c = eqb (code a b c) (code a b (c || false))
 
 -- ---- down
 
@@ -175,67 +131,12 @@ module _ (x : Part) (w : Use) (o : w.owner ≡ 64) where
       test : Bool → Bool → Bool → Bool → Bool → Bool → Bool
       test a b c i g z = eqb (bit_and (bit_or (code a b c) (doubled (bit_and (bit_and (code a b c) (use_code_of i g)) 1))) 2) (one_if (b || (a && i)) 2)
 
-  -- a ; b, where a neither ends nor can be empty, nor ends at once
-  pub then_use_none : side_code x ≡ 0 → 0 ≡ use_code (then_use x w)
-  then_use_none e = rw ended_seven (eqb→eq _ _ (so (eqb (side_code x) 0) _ (every6 test tt x.early (x.ends 7) x.empty (w.into 7) (w.go 7) false) (rw e refl)))
-    where
-      test : Bool → Bool → Bool → Bool → Bool → Bool → Bool
-      test a b c i g z = not (eqb (code a b c) 0) || eqb 0 (use_code_of (c && i) ((b || (a && i)) || (c && g)))
-
-  -- a ; b, where an attempt under way ends a, which cannot be empty
-  pub then_use_ends : bit_and (side_code x) 6 ≡ 2 → 2 ≡ use_code (then_use x w)
-  then_use_ends e = rw ended_seven (eqb→eq _ _ (so (eqb (bit_and (side_code x) 6) 2) _ (every6 test tt x.early (x.ends 7) x.empty (w.into 7) (w.go 7) false) (rw e refl)))
-    where
-      test : Bool → Bool → Bool → Bool → Bool → Bool → Bool
-      test a b c i g z = not (eqb (bit_and (code a b c) 6) 2) || eqb 2 (use_code_of (c && i) ((b || (a && i)) || (c && g)))
-
 module _ (x : Part) (w : Use) where
   pub then_use_is : bit_or (one_if (ended_lanes x w 7) 2) (one_if (has 4 (side_code x)) (use_code w)) ≡ use_code (then_use x w)
   then_use_is = eqb→eq _ _ (every6 test tt x.early (x.ends 7) x.empty (w.into 7) (w.go 7) (ended_lanes x w 7))
     where
       test : Bool → Bool → Bool → Bool → Bool → Bool → Bool
       test a b c i g e = eqb (bit_or (one_if e 2) (one_if (has 4 (code a b c)) (use_code_of i g))) (use_code_of (c && i) (e || (c && g)))
-
-  pub fuse_use_is : one_if (ended_lanes x w 7) 2 / 2 ^ 1 ≡ use_code (fuse_use x w)
-  fuse_use_is = go (ended_lanes x w 7)
-    where
-      go : (e : Bool) → one_if e 2 / 2 ^ 1 ≡ use_code_of e false
-      go true = refl
-      go false = refl
-
-  pub loop_use_is : bit_or (use_code w) (one_if (ended_lanes x w 7) 2) ≡ use_code (loop_use x w)
-  loop_use_is = eqb→eq _ _ (every3 test tt (w.into 7) (w.go 7) (ended_lanes x w 7))
-    where
-      test : Bool → Bool → Bool → Bool
-      test i g e = eqb (bit_or (use_code_of i g) (one_if e 2)) (use_code_of i (g || e))
-
--- ---- records for a kind that is known
-
-module _ {kind a r : ℕ} where
-  pub pair_none : {Second : Part → Type 0} → 18 < kind → Pair kind a Second r
-  pair_none l = record { then_is = λ k x y e f. absurd (omega arith); fuse_is = λ k x y e f. absurd (omega arith); alt_is = λ k x y e f. absurd (omega arith) }
-
-  pub loop_none : kind ≤ 18 → Loop kind a r
-  loop_none l = record { star_is = λ k x e. absurd (omega arith); plus_is = λ k x e. absurd (omega arith) }
-
-  -- the second operand told otherwise
-  pub pair_by : {from b : ℕ} {Second : Part → Type 0} → from ≡ kind → ((y : Part) → Second y → b ≡ side_code y) → Pair from a (λ y. b ≡ side_code y) r → Pair kind a Second r
-  pair_by same f p = record {
-    then_is = λ k x y e s. p.then_is (same ∙ k) x y e (f y s);
-    fuse_is = λ k x y e s. p.fuse_is (same ∙ k) x y e (f y s);
-    alt_is = λ k x y e s. p.alt_is (same ∙ k) x y e (f y s);
-  }
-
--- the part of a row that is a ; b
-pub then_found : {t : List ℕ} {truth word : ℕ} {parts : List ℕ} {n a r : ℕ} → kind_of t n ≡ 16
-    → ((x y : Part) → a ≡ side_code x → SecondOf t truth word parts n y → r ≡ side_code (then_part x y)) → PartOf t truth word parts n a r
-then_found e h = record {
-  pair = record { then_is = λ k. h; fuse_is = λ k x y p q. absurd (omega arith); alt_is = λ k x y p q. absurd (omega arith) };
-  loop = loop_none (omega arith);
-}
-
-pub right_at : {kind to a used r : ℕ} → kind ≡ to → Right kind a used r → Right to a used r
-right_at {a = a} {used = used} {r = r} e h = subst (λ (k : ℕ). Right k a used r) e h
 
 -- handing on keeps the length of uses
 pub handed_length : {n v used booleans word word' : ℕ} {uses uses' : List ℕ} → Handed n v used booleans word uses word' uses' → length uses' ≡ length uses

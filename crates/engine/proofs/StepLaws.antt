@@ -2,8 +2,8 @@
 use Prim.Native.Nat.{ℕ, ◌%◌, ◌≤◌, ◌<◌}
 use native.Mathlib.Nat.{mod-eq_of_lt}
 use native.Mathlib.Omega.{arith}
-use mathlib.Core.Path.{◌≡◌, refl, ◌∙◌, ap}
-use mathlib.Core.Bool.{Bool, true, false, not, ◌&&◌, ◌||◌}
+use mathlib.Core.Path.{◌≡◌, refl, sym, ◌∙◌, ap}
+use mathlib.Core.Bool.{Bool, true, false, not, ◌&&◌, ◌||◌, or-false, or_assoc, or_comm, and-false}
 use mathlib.Core.List.{List}
 use lib.Dec.{eqb}
 use borrow.Author.Tests.{eqb-true, ne_eqb}
@@ -70,22 +70,9 @@ pub record Does (nd : Node) (x n : ℕ) (was hit : Bool) (s r : Stage) : Type 0 
   pub held : (k : ℕ) → r.held k ≡ s.held k || (keeps nd (s.begin n) was hit x && eqb k n)
   pub broke : r.broken ≡ s.broken || breaks nd hit
 
-or-false : (b : Bool) → b ≡ b || false
-or-false true = refl
-or-false false = refl
-
-or_assoc : (a b c : Bool) → (a || b) || c ≡ a || (b || c)
-or_assoc true b c = refl
-or_assoc false b c = refl
-
-or_comm : (a b : Bool) → a || b ≡ b || a
-or_comm true true = refl
-or_comm true false = refl
-or_comm false b = or-false b
-
-none : (a : Bool) → a && false ≡ false
-none true = refl
-none false = refl
+-- nothing is added
+no_more : (b : Bool) → b ≡ b || false
+no_more b = sym (or-false b)
 
 right : (a b : Bool) → a && b ≡ true → b ≡ true
 right true b e = e
@@ -105,15 +92,15 @@ to {reached = reached} {v = v} k e o = ap reached (eqb-true k v e) ∙ o.is_reac
 module _ {t : List ℕ} {letter : Letter} {x : ℕ} {reached : ℕ → Bool} {n : ℕ} where
   -- it sends to smaller rows, which are reached
   pub sends_lower : {nd : Node} → PropertyRow t letter x reached n nd → (now was hit : Bool) (k : ℕ) → n ≤ k → sends nd now was hit x k ≡ false
-  sends_lower (reads_both e a b) now was hit k l = rw (lower k l a, lower k l b) (none now)
-  sends_lower (reads_next e a) now was hit k l = rw (lower k l a) (none was)
-  sends_lower (reads_if {b = b} e c p q) now was hit k l = rw (lower k l p, lower k l q, none (holds b x), none (not (holds b x))) (none now)
-  sends_lower (reads_implies {b = b} e c p) now was hit k l = rw (lower k l p, none (holds b x)) (none now)
-  sends_lower (reads_or {b = b} e p c) now was hit k l = rw (lower k l p, none (not (holds b x))) (none now)
-  sends_lower (reads_always e p) now was hit k l = rw (lower k l p) (none (was || now))
-  sends_lower (reads_until {b = b} e p c) now was hit k l = rw (lower k l p, none (not (holds b x))) (none (was || now))
-  sends_lower (reads_suffix e a p) now was hit k l = rw (lower k l p) (none hit)
-  sends_lower (reads_suffix_next {r = r} e a u p) now was hit k l = rw (lower k l p) (none (was || (now && nullable r)))
+  sends_lower (reads_both e a b) now was hit k l = rw (lower k l a, lower k l b) (and-false now)
+  sends_lower (reads_next e a) now was hit k l = rw (lower k l a) (and-false was)
+  sends_lower (reads_if {b = b} e c p q) now was hit k l = rw (lower k l p, lower k l q, and-false (holds b x), and-false (not (holds b x))) (and-false now)
+  sends_lower (reads_implies {b = b} e c p) now was hit k l = rw (lower k l p, and-false (holds b x)) (and-false now)
+  sends_lower (reads_or {b = b} e p c) now was hit k l = rw (lower k l p, and-false (not (holds b x))) (and-false now)
+  sends_lower (reads_always e p) now was hit k l = rw (lower k l p) (and-false (was || now))
+  sends_lower (reads_until {b = b} e p c) now was hit k l = rw (lower k l p, and-false (not (holds b x))) (and-false (was || now))
+  sends_lower (reads_suffix e a p) now was hit k l = rw (lower k l p) (and-false hit)
+  sends_lower (reads_suffix_next {r = r} e a u p) now was hit k l = rw (lower k l p) (and-false (was || (now && nullable r)))
   sends_lower (reads_never e a) now was hit k l = refl
 
   pub sends_reached : {nd : Node} → PropertyRow t letter x reached n nd → (now was hit : Bool) (k : ℕ) → sends nd now was hit x k ≡ true → reached k ≡ true
@@ -143,22 +130,27 @@ module _ {t : List ℕ} {letter : Letter} {x : ℕ} {reached : ℕ → Bool} {n 
   idle_quiet (reads_suffix_next e a u p) hit h = record { no_sends = λ k. refl; no_keeps = h (omega arith); no_breaks = refl }
   idle_quiet (reads_never e a) hit h = record { no_sends = λ k. refl; no_keeps = refl; no_breaks = h (omega arith) }
 
+-- a row that begins and one that stays held, in whichever order
+pub begun_kept : (s : Stage) (v n : ℕ) (on held : Bool) → begun_at (kept_at s n held) v on ≡ kept_at (begun_at s v on) n held
+unfolding begun_at kept_at
+begun_kept s v n on held = refl
+
 -- one of two rows begins
 module _ (s : Stage) (v w : ℕ) where
   chosen : v % 64 ≡ v → w % 64 ≡ w → (on : Bool) (k : ℕ) → (pick on (begun_at s v true) (begun_at s w true)).begin k ≡ s.begin k || (on && eqb k v || not on && eqb k w)
   unfolding pick begun_at
-  chosen p q true k = ap (λ (m : ℕ). s.begin k || eqb k m) p ∙ ap (λ (c : Bool). s.begin k || c) (or-false (eqb k v))
+  chosen p q true k = ap (λ (m : ℕ). s.begin k || eqb k m) p ∙ ap (λ (c : Bool). s.begin k || c) (no_more (eqb k v))
   chosen p q false k = ap (λ (m : ℕ). s.begin k || eqb k m) q
 
   chosen_held : (on : Bool) (k : ℕ) → (pick on (begun_at s v true) (begun_at s w true)).held k ≡ s.held k || false
   unfolding pick begun_at
-  chosen_held true k = or-false (s.held k)
-  chosen_held false k = or-false (s.held k)
+  chosen_held true k = no_more (s.held k)
+  chosen_held false k = no_more (s.held k)
 
   chosen_broken : (on : Bool) → (pick on (begun_at s v true) (begun_at s w true)).broken ≡ s.broken || false
   unfolding pick begun_at
-  chosen_broken true = or-false s.broken
-  chosen_broken false = or-false s.broken
+  chosen_broken true = no_more s.broken
+  chosen_broken false = no_more s.broken
 
 -- The visit of row n, which begins, was held, or has a left side that ends.
 module _ (t : List ℕ) (l : Letter) (x n : ℕ) (reached : ℕ → Bool) (low : n < 64) (s : Stage) (hit : Bool)
@@ -182,13 +174,13 @@ module _ (t : List ℕ) (l : Letter) (x n : ℕ) (reached : ℕ → Bool) (low :
   visit_does (reads_both e a b) kept h =
       let now : s.begin n ≡ true = begins (omega arith) (λ z. elim (kept z) [ ]) in record {
         sent = λ k. rw (e, operand a, operand b, now) (or_assoc (s.begin k) (eqb k (a_of t n)) (eqb k (b_of t n)));
-        held = λ k. rw e (or-false (s.held k));
-        broke = rw e (or-false s.broken);
+        held = λ k. rw e (no_more (s.held k));
+        broke = rw e (no_more s.broken);
       }
   visit_does (reads_next e a) kept h = record {
     sent = λ k. rw (e, here, operand a);
     held = λ k. rw (e, here);
-    broke = rw e (or-false s.broken);
+    broke = rw e (no_more s.broken);
   }
   visit_does (reads_if {b = b} e c p q) kept h =
       let now : s.begin n ≡ true = begins (omega arith) (λ z. elim (kept z) [ ]) in
@@ -201,44 +193,44 @@ module _ (t : List ℕ) (l : Letter) (x n : ℕ) (reached : ℕ → Bool) (low :
       let now : s.begin n ≡ true = begins (omega arith) (λ z. elim (kept z) [ ]) in
       let low : a_of t n % 64 ≡ a_of t n = mod-eq_of_lt c.low in record {
         sent = λ k. rw (e, low, operand p, c.is, now);
-        held = λ k. rw e (or-false (s.held k));
-        broke = rw e (or-false s.broken);
+        held = λ k. rw e (no_more (s.held k));
+        broke = rw e (no_more s.broken);
       }
   visit_does (reads_or {b = b} e p c) kept h =
       let now : s.begin n ≡ true = begins (omega arith) (λ z. elim (kept z) [ ]) in
       let low : b_of t n % 64 ≡ b_of t n = mod-eq_of_lt c.low in record {
         sent = λ k. rw (e, low, operand p, c.is, now);
-        held = λ k. rw e (or-false (s.held k));
-        broke = rw e (or-false s.broken);
+        held = λ k. rw e (no_more (s.held k));
+        broke = rw e (no_more s.broken);
       }
   visit_does (reads_always e p) kept h = let on = lasts (omega arith) in record {
     sent = λ k. rw (e, operand p, on);
     held = λ k. rw (e, here, on);
-    broke = rw e (or-false s.broken);
+    broke = rw e (no_more s.broken);
   }
   visit_does (reads_until {b = b} e p c) kept h =
       let on = lasts (omega arith) in
       let low : b_of t n % 64 ≡ b_of t n = mod-eq_of_lt c.low in record {
         sent = λ k. rw (e, low, operand p, c.is, on);
         held = λ k. rw (e, here, low, c.is, on);
-        broke = rw e (or-false s.broken);
+        broke = rw e (no_more s.broken);
       }
   visit_does (reads_suffix e a p) kept h =
       let low : a_of t n % 64 ≡ a_of t n = mod-eq_of_lt a in record {
         sent = λ k. rw (e, here, low, operand p, h (omega arith));
-        held = λ k. rw e (or-false (s.held k));
-        broke = rw e (or-false s.broken);
+        held = λ k. rw e (no_more (s.held k));
+        broke = rw e (no_more s.broken);
       }
   visit_does (reads_suffix_next e a u p) kept h =
       let low : a_of t n % 64 ≡ a_of t n = mod-eq_of_lt a in record {
         sent = λ k. rw (e, here, operand p, u);
         held = λ k. rw (e, here, low, h (omega arith));
-        broke = rw e (or-false s.broken);
+        broke = rw e (no_more s.broken);
       }
   visit_does (reads_never e a) kept h =
       let low : a_of t n % 64 ≡ a_of t n = mod-eq_of_lt a in
       let on = or_comm (s.begin n) (bit l.was n) in record {
-        sent = λ k. rw e (or-false (s.begin k));
+        sent = λ k. rw e (no_more (s.begin k));
         held = λ k. rw (e, here, on);
         broke = rw (e, here, low, on, h (omega arith));
       }

@@ -1,42 +1,33 @@
 -- The truth of the Boolean rows, row by row upwards.
-use Prim.Native.Nat.{ℕ, zero, suc, ◌*◌, ◌%◌, ◌^◌, ◌<◌}
-use native.Mathlib.Nat.{mod-eq_of_lt, one-mul, zero-mul}
+use Prim.Native.Nat.{ℕ, ◌%◌, ◌<◌}
+use native.Mathlib.Nat.{mod-eq_of_lt}
 use native.Mathlib.Omega.{arith}
 use mathlib.Core.Path.{◌≡◌, refl, sym, ◌∙◌, ap, ap₂, subst}
-use mathlib.Core.Bool.{Bool, true, false, ◌&&◌, ◌||◌}
+use mathlib.Core.Bool.{Bool, true, false, ◌&&◌, ◌||◌, and-true}
 use mathlib.Core.List.{List}
-use lib.Bits.{bit_or, or_zero_r}
 use lib.Dec.{T, eqb}
-use lib.Pow.{shl_exact}
-use borrow.Author.Tests.{ne_eqb, eq-eqb}
+use borrow.Author.Tests.{ne_eqb, eq-eqb, le-ltb}
 use Rattle.psl.specs.Booleans.{Boolean, bit, holds}
 use Rattle.table.specs.Choice.{pick}
-use Rattle.words.specs.Bits.{bit_none, bit_on}
-use Rattle.words.specs.Sets.{WithBit, Lowest, Without}
-use Rattle.words.specs.Walk.{Turn, turn_up, rest_in, Left, left_start, left_turn, left_end}
+use Rattle.table.proofs.Laws.Choices.{no_so, said_ne}
+use Rattle.words.specs.Bits.{bit_none}
+use Rattle.words.specs.Sets.{WithBit, Lowest}
+use Rattle.words.specs.Walk.{Turn, rest_in, Left, left_start, left_turn, left_end}
 use Rattle.engine.specs.Reads.{kind_of, a_of, b_of}
 use Rattle.engine.specs.Truths.{BooleanRow, reads_true, reads_false, reads_signal, reads_not, reads_and, reads_or, BooleanRows, Truth, OnlyIn, compound_at, holds_at}
 
 pub clash : {A : Type 0} {b : Bool} → b ≡ true → b ≡ false → A
 clash p q = absurd (subst T (sym p ∙ q) tt)
 
--- A digit put into a word.
-pub digit_is : (word index d : ℕ) → d < 2 → WithBit word index (eqb d 1) (bit_or word (d * 2 ^ (index % 64) % 2 ^ 64))
-digit_is word index zero l = record { each = λ k. rw (zero-mul, or_zero_r) (or_none (bit word k)) }
-  where
-    or_none : (b : Bool) → b ≡ b || false
-    or_none true = refl
-    or_none false = refl
-digit_is word index (suc zero) l = record { each = λ k. rw shifted (bit_on word (index % 64) k) }
-  where
-    shifted : 1 * 2 ^ (index % 64) % 2 ^ 64 ≡ 2 ^ (index % 64)
-    shifted = shl_exact {a = 1} 1 (index % 64) 64 (omega arith) (omega arith) ∙ one-mul (2 ^ (index % 64))
-digit_is word index (suc (suc d)) l = absurd (omega arith)
-
 -- A row that is a signal.
 pub signal_row : (t : List ℕ) (n truth sample : ℕ) {r : ℕ} → eqb (kind_of t n) 3 ≡ true → WithBit truth n (bit sample (a_of t n % 64)) r → WithBit truth n (holds_at t n truth sample) r
 unfolding holds_at pick
 signal_row t n truth sample e h = rw e h
+
+-- One that is neither a signal nor a constant.
+pub compound_so : (t : List ℕ) (n truth : ℕ) {kind : ℕ} {b : Bool} → kind ≡ kind_of t n → (kind ≡ 3 → ⊥) → 2 < kind → b ≡ compound_at t n kind truth → (sample : ℕ) → b ≡ holds_at t n truth sample
+unfolding holds_at
+compound_so t n truth e no_signal large is sample = no_so _ _ _ (said_ne e no_signal) (no_so _ _ _ (le-ltb _ _ (omega (arith, e))) (rw e at is))
 
 -- A row of the set, where smaller rows of the set are right.
 module _ (t : List ℕ) (booleans truth x : ℕ) (value : ℕ → Boolean) where
@@ -69,10 +60,6 @@ known_start t booleans x = record { within = λ k e. e; only = λ k e. bit_none 
 module _ {word n r : ℕ} {on : Bool} (low : n < 64) (set : WithBit word n on r) where
   pub set_here : bit word n ≡ false → bit r n ≡ on
   set_here e = set.each n ∙ ap (λ (m : ℕ). bit word n || (on && eqb n m)) (mod-eq_of_lt low) ∙ ap₂ (λ (b c : Bool). b || (on && c)) e (eq-eqb n n refl) ∙ and-true on
-    where
-      and-true : (b : Bool) → b && true ≡ b
-      and-true true = refl
-      and-true false = refl
 
   pub set_other : (k : ℕ) → (k ≡ n → ⊥) → bit r k ≡ bit word k
   set_other k ne = set.each k ∙ ap (λ (m : ℕ). bit word k || (on && eqb k m)) (mod-eq_of_lt low) ∙ ap (λ (c : Bool). bit word k || (on && c)) (ne_eqb k n ne) ∙ none (bit word k) on
@@ -83,17 +70,14 @@ module _ {word n r : ℕ} {on : Bool} (low : n < 64) (set : WithBit word n on r)
       none false false = refl
 
 module _ {t : List ℕ} {booleans x truth left : ℕ} (known : Known t booleans x truth left) where
-  pub known_turn : {n rest r : ℕ} → 0 < left → Lowest left n → Without Lowest left rest → WithBit truth n (holds_at t n truth x) r → Known t booleans x r rest
-  known_turn {n} {rest} {r} some low less set = record {
+  pub known_turn : {n rest r : ℕ} → Lowest left n → Turn left n rest → WithBit truth n (holds_at t n truth x) r → Known t booleans x r rest
+  known_turn {n} {rest} {r} low turn set = record {
     within = λ k e. known.within k (rest_in turn k e).0;
     only = λ k e. set_other small set k (λ q. clash (subst (λ (j : ℕ). bit booleans j ≡ true) (sym q) (known.within n turn.set)) e) ∙ known.only k e;
     clear = λ k e. set_other small set k (rest_in turn k e).1 ∙ known.clear k (rest_in turn k e).0;
     right = λ value rows. left_turn (kept value (known.right value rows)) turn (λ k h. h.0) (here value rows);
   }
     where
-      turn : Turn left n rest
-      turn = turn_up some low less
-
       small : n < 64
       small = turn.small
 

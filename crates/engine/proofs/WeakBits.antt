@@ -4,6 +4,7 @@ use native.Mathlib.Omega.{arith}
 use native.Mathlib.Decide.{dec_lt}
 use mathlib.Core.Path.{◌≡◌, refl, sym, ◌∙◌, ap, ap₂, subst}
 use mathlib.Core.Bool.{Bool, true, false, not, ◌&&◌, ◌||◌}
+use Rattle.std.proofs.Math.Bool.{and-true, and-false, or-false, and_comm, or_comm}
 use lib.Bits.{bit_or, bit_and, and_le_r}
 use lib.Dec.{T, eqb, ltb, leb}
 use lib.Pow.{pow-lt}
@@ -51,17 +52,13 @@ tested x i = go (bit x i) refl
     go false e = ap not (eq-eqb (bit_and x (2 ^ i)) 0 (no_bits (suc i) (bit_and x (2 ^ i)) (let h = and_le_r x (2 ^ i) in let g : 2 ^ i < 2 ^ suc i = pow-lt (omega arith) in omega arith)
         (λ k l. bit_and_lem x (2 ^ i) k ∙ both (bit x k) (bit (2 ^ i) k) (λ h. ap (bit x) (eqb-true k i (sym (bit_one i k) ∙ h)) ∙ e))))
 
-pub or_none : (c : Bool) → c || false ≡ c
-or_none true = refl
-or_none false = refl
-
 pub low_6 : (l : ℕ) → l < 6 → bit 64 l ≡ false
 low_6 l h = bit_one 6 l ∙ ne_eqb l 6 (λ z. omega arith)
 
 pub low_7 : (l : ℕ) → l < 6 → bit 128 l ≡ false
 low_7 l h = bit_one 7 l ∙ ne_eqb l 7 (λ z. omega arith)
 
-low_127 : (l : ℕ) → l < 6 → bit 127 l ≡ true
+pub low_127 : (l : ℕ) → l < 6 → bit 127 l ≡ true
 low_127 l h = bit_ones 7 l ∙ lt-ltb l 7 (omega arith)
 
 low_192 : (l : ℕ) → l < 6 → bit 192 l ≡ false
@@ -80,62 +77,13 @@ abbrev then_mix : (s a b a7 b7 m64 m127 m128 : Bool) → Bool
 then_mix s a b a7 b7 m64 m127 m128 = ((s || (a7 && (b && m64))) || (b7 && (a && m127))) || ((a && b) && m128)
 
 then_low : (s a b a7 b7 : Bool) → then_mix s a b a7 b7 false true false ≡ s || (b7 && a)
-then_low true true true true true = refl
-then_low true true true true false = refl
-then_low true true true false true = refl
-then_low true true true false false = refl
-then_low true true false true true = refl
-then_low true true false true false = refl
-then_low true true false false true = refl
-then_low true true false false false = refl
-then_low true false true true true = refl
-then_low true false true true false = refl
-then_low true false true false true = refl
-then_low true false true false false = refl
-then_low true false false true true = refl
-then_low true false false true false = refl
-then_low true false false false true = refl
-then_low true false false false false = refl
-then_low false true true true true = refl
-then_low false true true true false = refl
-then_low false true true false true = refl
-then_low false true true false false = refl
-then_low false true false true true = refl
-then_low false true false true false = refl
-then_low false true false false true = refl
-then_low false true false false false = refl
-then_low false false true true true = refl
-then_low false false true true false = refl
-then_low false false true false true = refl
-then_low false false true false false = refl
-then_low false false false true true = refl
-then_low false false false true false = refl
-then_low false false false false true = refl
-then_low false false false false false = refl
+then_low s a b a7 b7 = simp (and-true, and-false, or-false)
 
 then_early : (a b a7 b7 : Bool) → then_mix false a b a7 b7 true true false ≡ (a && b7) || (a7 && b)
-then_early true true true true = refl
-then_early true true true false = refl
-then_early true true false true = refl
-then_early true true false false = refl
-then_early true false true true = refl
-then_early true false true false = refl
-then_early true false false true = refl
-then_early true false false false = refl
-then_early false true true true = refl
-then_early false true true false = refl
-then_early false true false true = refl
-then_early false true false false = refl
-then_early false false true true = refl
-then_early false false true false = refl
-then_early false false false true = refl
-then_early false false false false = refl
+then_early a b a7 b7 = simp (and-true, and-false, or-false) (or_comm (a7 && b) (b7 && a) ∙ ap (λ (c : Bool). c || (a7 && b)) (and_comm b7 a))
 
 then_empty : (a b : Bool) → then_mix false a b a b false false true ≡ a && b
-then_empty true true = refl
-then_empty true false = refl
-then_empty false true = refl
-then_empty false false = refl
+then_empty a b = simp (and-true, and-false)
 
 module _ (a b k s x y : ℕ) (S : Shifted b k s) (X : x ≡ only_if (not (eqb (bit_and a 128) 0)) (bit_and b 64)) (Y : y ≡ only_if (not (eqb (bit_and b 128) 0)) (bit_and a 127)) where
   then_bits : (l : ℕ) → bit (bit_or (bit_or (bit_or s x) y) (bit_and (bit_and a b) 128)) l ≡ then_mix (bit s l) (bit a l) (bit b l) (bit a 7) (bit b 7) (bit 64 l) (bit 127 l) (bit 128 l)
@@ -163,15 +111,11 @@ module _ (a b k s x y : ℕ) (S : Shifted b k s) (X : x ≡ only_if (not (eqb (b
 -- neither can be empty
 pub then_short : (a b k s : ℕ) → Shifted b k s → bit_and (bit_or a b) 128 ≡ 0 → ThenAct a b k s
 then_short a b k s S z p q P Q e = record {
-  lanes_are = λ l h. right_lanes p q a b k s P Q e S l h ∙ sym (ap (λ (c : Bool). placed p.count q.ends l || (c && p.ends l)) (sym Q.empty_is ∙ none.1) ∙ or_none (placed p.count q.ends l));
-  early_is = S.high 6 (omega arith) ∙ sym (ap₂ (λ (c d : Bool). (p.early && d) || (c && q.early)) (sym P.empty_is ∙ none.0) (sym Q.empty_is ∙ none.1) ∙ and_none p.early);
+  lanes_are = λ l h. right_lanes p q a b k s P Q e S l h ∙ sym (ap (λ (c : Bool). placed p.count q.ends l || (c && p.ends l)) (sym Q.empty_is ∙ none.1) ∙ or-false (placed p.count q.ends l));
+  early_is = S.high 6 (omega arith) ∙ sym (ap₂ (λ (c d : Bool). (p.early && d) || (c && q.early)) (sym P.empty_is ∙ none.0) (sym Q.empty_is ∙ none.1) ∙ simp (and-false, or-false));
   empty_is = S.high 7 (omega arith) ∙ sym (ap (λ (c : Bool). c && q.empty) (sym P.empty_is ∙ none.0));
 }
   where
-    and_none : (c : Bool) → (c && false) || false ≡ false
-    and_none true = refl
-    and_none false = refl
-
     neither : (c d : Bool) → (c || d) && true ≡ false → (c ≡ false) × (d ≡ false)
     neither true d h = absurd (subst T h tt)
     neither false true h = absurd (subst T h tt)
@@ -182,46 +126,20 @@ then_short a b k s S z p q P Q e = record {
 
 pub fuse_is : (a b k s x : ℕ) → Shifted b k s → x ≡ only_if (not (eqb (bit_and b 64) 0)) (bit_and a 127) → FuseAct a b k (bit_or s x)
 fuse_is a b k s x S X p q P Q e = record {
-  lanes_are = λ l h. bits l ∙ (λ i. right_lanes p q a b k s P Q e S l h i || (Q.early_is i && (P.lanes_are l h i && low_127 l h i))) ∙ ap (λ (c : Bool). placed p.count q.ends l || (q.early && c)) (and_yes (p.ends l));
-  early_is = bits 6 ∙ (λ i. S.high 6 (omega arith) i || (Q.early_is i && (P.early_is i && true))) ∙ swap q.early p.early;
-  empty_is = bits 7 ∙ (λ i. S.high 7 (omega arith) i || (Q.early_is i && (bit a 7 && false))) ∙ off q.early (bit a 7);
+  lanes_are = λ l h. bits l ∙ (λ i. right_lanes p q a b k s P Q e S l h i || (Q.early_is i && (P.lanes_are l h i && low_127 l h i))) ∙ simp and-true;
+  early_is = bits 6 ∙ (λ i. S.high 6 (omega arith) i || (Q.early_is i && (P.early_is i && true))) ∙ simp and-true (and_comm q.early p.early);
+  empty_is = bits 7 ∙ (λ i. S.high 7 (omega arith) i || (Q.early_is i && (bit a 7 && false))) ∙ simp and-false;
 }
   where
-    and_yes : (c : Bool) → c && true ≡ c
-    and_yes true = refl
-    and_yes false = refl
-
-    swap : (c d : Bool) → c && (d && true) ≡ d && c
-    swap true true = refl
-    swap true false = refl
-    swap false true = refl
-    swap false false = refl
-
-    off : (c d : Bool) → c && (d && false) ≡ false
-    off true true = refl
-    off true false = refl
-    off false d = refl
-
     bits : (l : ℕ) → bit (bit_or s x) l ≡ bit s l || (bit b 6 && (bit a l && bit 127 l))
     bits l = bit_or_lem s x l ∙ ap (λ (c : Bool). bit s l || c) (ap (λ (w : ℕ). bit w l) X ∙ only_bit (not (eqb (bit_and b 64) 0)) (bit_and a 127) l ∙ ap₂ ◌&&◌ (tested b 6) (bit_and_lem a 127 l))
 
 pub alt_is : (a b k s : ℕ) → Shifted b k s → AltAct a b k (bit_or (bit_or s (bit_and b 192)) a)
 alt_is a b k s S p q P Q e = record {
-  lanes_are = λ l h. bits l ∙ (λ i. (right_lanes p q a b k s P Q e S l h i || (bit b l && low_192 l h i)) || P.lanes_are l h i) ∙ low (placed p.count q.ends l) (bit b l) (p.ends l);
-  early_is = bits 6 ∙ (λ i. (S.high 6 (omega arith) i || (Q.early_is i && true)) || P.early_is i) ∙ swap q.early p.early;
-  empty_is = bits 7 ∙ (λ i. (S.high 7 (omega arith) i || (Q.empty_is i && true)) || P.empty_is i) ∙ swap q.empty p.empty;
+  lanes_are = λ l h. bits l ∙ (λ i. (right_lanes p q a b k s P Q e S l h i || (bit b l && low_192 l h i)) || P.lanes_are l h i) ∙ simp (and-false, or-false);
+  early_is = bits 6 ∙ (λ i. (S.high 6 (omega arith) i || (Q.early_is i && true)) || P.early_is i) ∙ simp and-true (or_comm q.early p.early);
+  empty_is = bits 7 ∙ (λ i. (S.high 7 (omega arith) i || (Q.empty_is i && true)) || P.empty_is i) ∙ simp and-true (or_comm q.empty p.empty);
 }
   where
-    low : (s b a : Bool) → (s || (b && false)) || a ≡ s || a
-    low true b a = refl
-    low false true a = refl
-    low false false a = refl
-
-    swap : (c d : Bool) → (c && true) || d ≡ d || c
-    swap true true = refl
-    swap true false = refl
-    swap false true = refl
-    swap false false = refl
-
     bits : (l : ℕ) → bit (bit_or (bit_or s (bit_and b 192)) a) l ≡ (bit s l || (bit b l && bit 192 l)) || bit a l
     bits l = bit_or_lem (bit_or s (bit_and b 192)) a l ∙ ap (λ (c : Bool). c || bit a l) (bit_or_lem s (bit_and b 192) l ∙ ap (λ (c : Bool). bit s l || c) (bit_and_lem b 192 l))

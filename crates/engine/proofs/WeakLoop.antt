@@ -6,13 +6,13 @@ use mathlib.Core.Path.{◌≡◌, refl, sym, ◌∙◌, ap, ap₂, subst}
 use mathlib.Core.Bool.{Bool, true, false, not, ◌&&◌, and-false, and-true}
 use mathlib.Core.List.{List}
 use lib.Dec.{eqb, ltb}
-use lib.ListN.{length, get_or}
+use lib.ListN.{get_or}
 use borrow.Author.Tests.{lt-ltb, le-ltb, eq-eqb, ne_eqb}
 use Rattle.psl.specs.Booleans.{bit, sample}
 use Rattle.psl.specs.Tells.{tells_and, tells_lt, tells_value, tells_true}
 use Rattle.words.specs.Bits.{bit_none}
-use Rattle.words.specs.Sets.{Highest, Without}
-use Rattle.words.specs.Walk.{Turn, turn_down, rest_in}
+use Rattle.words.specs.Sets.{Highest}
+use Rattle.words.specs.Walk.{Turn, rest_in}
 use Rattle.lanes.specs.Rows.{Row, r_bool, r_then, r_fuse, r_alt, r_star, r_plus, r_weak, r_left, r_rest, Has, IsSequence}
 use Rattle.lanes.specs.Expected.{Table}
 use Rattle.lanes.specs.Uses.{Use}
@@ -21,7 +21,9 @@ use Rattle.lanes.specs.Ideal.{part_of}
 use Rattle.lanes.specs.Whole.{rel_only}
 use Rattle.engine.specs.Reads.{kind_of}
 use Rattle.engine.specs.Weaks.{WeakOperand, is_cell, is_row, WeakRow, reads_then, reads_fuse, reads_alt, reads_star, reads_plus, reads_weak, weak_number, WeakLanes}
-use Rattle.engine.specs.WeakUses.{Arrays, Sized}
+use Rattle.engine.specs.declared.weak_parts.Parts.{Parts}
+use Rattle.engine.specs.declared.weak_uses.Uses.{Uses}
+use Rattle.engine.specs.WeakHanded.{Blank}
 use Rattle.engine.specs.WeakPass.{WeakPass, finished, handed_to, WeakDown, RowDone, WeaksDown}
 use Rattle.engine.proofs.WeakNumbers.{weak_is, is_weak_lem, flat}
 use Rattle.engine.proofs.WeakWork.{clash, lands, lands_row, row_low, narrow}
@@ -48,19 +50,19 @@ keeps_owner row live x enter (r_weak _) n f w s = elim s [ ]
 keeps_owner row live x enter (r_left _) n f w s = elim s [ ]
 keeps_owner row live x enter r_rest n f w s = elim s [ ]
 
-module _ (t : List ℕ) (row : ℕ → Row) (table : Table row) (booleans weaks truth begin x : ℕ) (live : ℕ → Bool → Bool) (enter : ℕ → Bool) (acts counts : List ℕ)
-    (H : WeakPass t row booleans weaks truth begin x enter acts counts) where
+module _ {t : List ℕ} {row : ℕ → Row} {booleans weaks truth begin x : ℕ} {enter : ℕ → Bool} {parts : Parts} (table : Table row) (live : ℕ → Bool → Bool)
+    (H : WeakPass t row booleans weaks truth begin x enter parts) where
   abbrev D : Work
   D = finished t row table weaks x live enter
 
   abbrev to : ℕ → Bool → Use
   to n f = handed_to t row table weaks x live enter n f
 
-  abbrev Down : ℕ → ℕ → Arrays → List ℕ → Type 0
+  abbrev Down : ℕ → Uses → Type 0
   Down = WeakDown t row table weaks x live enter
 
   low : (n : ℕ) → bit weaks n ≡ true → n < 64
-  low = row_low t row table booleans weaks truth begin x live enter acts counts H
+  low = row_low table live H
 
   -- ---- the rows of a weak sequence of the set are rows of the set
 
@@ -89,7 +91,7 @@ module _ (t : List ℕ) (row : ℕ → Row) (table : Table row) (booleans weaks 
       seq : IsSequence (row n) → bit weaks n ≡ true
       seq s =
           let u = table.sound.used n s in
-          let d = lands_row D (row n) u.0 u.1 n (to u.0 u.1) s (lands t row table booleans weaks truth begin x live enter acts counts H u.0 u.1 n u.2) in
+          let d = lands_row D (row n) u.0 u.1 n (to u.0 u.1) s (lands table live H u.0 u.1 n u.2) in
           let k = up u.0 u.1 (table.sound.falls u.0 u.1 n u.2) u.2 (ap (λ z. z.owner) (sym d) ∙ sym (keeps_owner row live x enter (row n) n f (D.uses n) s) ∙ e) in
           operand_in (operand_of u.1 n (H.rows u.0 k) u.2) s
 
@@ -110,9 +112,9 @@ module _ (t : List ℕ) (row : ℕ → Row) (table : Table row) (booleans weaks 
 
   -- ---- lower rows that are not of the set
 
-  pub lower : {w : ℕ} {k : Arrays} {tops : List ℕ} (top below : ℕ) → below ≤ top → top ≤ 64 → ((j : ℕ) → below ≤ j → j < top → bit weaks j ≡ false) → Down top w k tops → Down below w k tops
+  pub lower : {k : Uses} (top below : ℕ) → below ≤ top → top ≤ 64 → ((j : ℕ) → below ≤ j → j < top → bit weaks j ≡ false) → Down top k → Down below k
   lower top below l h none d = record {
-    work = narrow t row table booleans weaks truth begin x live enter acts counts H (λ m g u s i. (from m s.0 s.1, s.1)) d.work;
+    work = narrow table live H (λ m g u s i. (from m s.0 s.1, s.1)) d.work;
     tops_are = λ m a z. d.tops_are m (from m a (weak_is t weaks m z).0) z;
     met = d.met ∙ sym (flat t weaks (64 - top) (64 - below) (omega arith) (omega arith) (λ i a b. ap (λ (c : Bool). c && eqb (kind_of t i) 32) (none i (omega arith) (omega arith))));
   }
@@ -122,15 +124,15 @@ module _ (t : List ℕ) (row : ℕ → Row) (table : Table row) (booleans weaks 
 
   -- ---- the beginning
 
-  pub begun : (k : Arrays) (tops : List ℕ) → ((i : ℕ) → get_or k.leads i 0 ≡ 0) → Down 64 0 k tops
-  begun k tops blank = record {
+  pub begun : (k : Uses) → Blank k → Down 64 k
+  begun k blank = record {
     work = record {
       uses_are = λ n f v s i q. absurd (past n s.0 s.1);
       cells_in = λ n f v b s i q. absurd (past n s.0 s.1);
-      cells_right = λ o q l z a b s. absurd (clash s (ap (λ (y : ℕ). bit y l) (blank (8 * weak_number t weaks o + q)) ∙ bit_none l));
+      cells_right = λ o q l z a b s. absurd (clash s (ap (λ (y : ℕ). bit y l) (blank.leads_none (8 * weak_number t weaks o + q)) ∙ bit_none l));
     };
     tops_are = λ n a z. absurd (past n a (weak_is t weaks n z).0);
-    met = refl;
+    met = blank.met_none;
   }
     where
       past : (n : ℕ) → 64 ≤ n → bit weaks n ≡ true → ⊥
@@ -138,8 +140,8 @@ module _ (t : List ℕ) (row : ℕ → Row) (table : Table row) (booleans weaks 
 
   -- ---- the end
 
-  pub lanes_of : {w : ℕ} {k : Arrays} {tops : List ℕ} → Down 0 w k tops → (n : ℕ) → bit weaks n ≡ true → kind_of t n ≡ 32 → WeakLanes t row table live x enter n (weak_number t weaks n) tops k.leads
-  lanes_of {w} {k} {tops} d n e z =
+  pub lanes_of : {k : Uses} → Down 0 k → (n : ℕ) → bit weaks n ≡ true → kind_of t n ≡ 32 → WeakLanes t row table live x enter n (weak_number t weaks n) k.tops k.leads
+  lanes_of {k} d n e z =
       let top = d.tops_are n (omega arith) (is_weak_lem t weaks n e z) in
       record {
         ends_are = top.ends_are;
@@ -156,24 +158,19 @@ module _ (t : List ℕ) (row : ℕ → Row) (table : Table row) (booleans weaks 
 
 -- ---- the loop
 
-pub record DownLeft (t : List ℕ) (booleans weaks begin : ℕ) (acts counts blank : List ℕ) (left w : ℕ) (k : Arrays) (tops : List ℕ) : Type 0 where
-  pub sized : Sized k
-  pub tops_size : length tops ≡ 32
+pub record DownLeft (t : List ℕ) (booleans weaks begin : ℕ) (parts : Parts) (blank : Uses) (left : ℕ) (k : Uses) : Type 0 where
   pub within : (j : ℕ) → bit left j ≡ true → bit weaks j ≡ true
-  pub so_far : (row : ℕ → Row) (table : Table row) (truth x : ℕ) (live : ℕ → Bool → Bool) (enter : ℕ → Bool) → WeakPass t row booleans weaks truth begin x enter acts counts
-      → ((i : ℕ) → get_or blank i 0 ≡ 0)
-      → (top : ℕ) × (top ≤ 64) × ((j : ℕ) → bit left j ≡ bit weaks j && ltb j top) × WeakDown t row table weaks x live enter top w k tops
+  pub so_far : (row : ℕ → Row) (table : Table row) (truth x : ℕ) (live : ℕ → Bool → Bool) (enter : ℕ → Bool) → WeakPass t row booleans weaks truth begin x enter parts → Blank blank
+      → (top : ℕ) × (top ≤ 64) × ((j : ℕ) → bit left j ≡ bit weaks j && ltb j top) × WeakDown t row table weaks x live enter top k
 
-pub down_start : {t : List ℕ} {booleans weaks begin : ℕ} {acts counts tops : List ℕ} {k : Arrays} → Sized k → length tops ≡ 32 → DownLeft t booleans weaks begin acts counts k.leads weaks 0 k tops
-down_start {t} {booleans} {weaks} {begin} {acts} {counts} {tops} {k} s l = record {
-  sized = s;
-  tops_size = l;
+pub down_start : {t : List ℕ} {booleans weaks begin : ℕ} {parts : Parts} {k : Uses} → DownLeft t booleans weaks begin parts k weaks k
+down_start {t} {booleans} {weaks} {begin} {parts} {k} = record {
   within = λ j e. e;
   so_far = λ row table truth x live enter H blank. (
     64,
     omega arith,
-    λ j. same (bit weaks j) j (λ e. row_low t row table booleans weaks truth begin x live enter acts counts H j e),
-    begun t row table booleans weaks truth begin x live enter acts counts H k tops blank,
+    λ j. same (bit weaks j) j (λ e. row_low table live H j e),
+    begun table live H k blank,
   );
 }
   where
@@ -181,21 +178,18 @@ down_start {t} {booleans} {weaks} {begin} {acts} {counts} {tops} {k} s l = recor
     same true j h = sym (lt-ltb j 64 (h refl))
     same false j h = refl
 
-module _ {t : List ℕ} {booleans weaks begin : ℕ} {acts counts blank : List ℕ} {left n rest w r : ℕ} {old new : Arrays} {tops tops' : List ℕ} (h : DownLeft t booleans weaks begin acts counts blank left w old tops)
-    (some : 0 < left) (high : Highest left n) (less : Without Highest left rest) (s : Sized new) (z : length tops' ≡ 32) (done : RowDone t n w booleans begin acts counts old tops r new tops') where
-  turn : Turn left n rest
-  turn = turn_down some high less
-
-  module _ (row : ℕ → Row) (table : Table row) (truth x : ℕ) (live : ℕ → Bool → Bool) (enter : ℕ → Bool) (H : WeakPass t row booleans weaks truth begin x enter acts counts)
-      (top : ℕ) (l : top ≤ 64) (same : (j : ℕ) → bit left j ≡ bit weaks j && ltb j top) (d : WeakDown t row table weaks x live enter top w old tops) where
+module _ {t : List ℕ} {booleans weaks begin : ℕ} {parts : Parts} {blank : Uses} {left n rest : ℕ} {old new : Uses} (h : DownLeft t booleans weaks begin parts blank left old)
+    (high : Highest left n) (turn : Turn left n rest) (done : RowDone t n booleans begin parts old new) where
+  module _ (row : ℕ → Row) (table : Table row) (truth x : ℕ) (live : ℕ → Bool → Bool) (enter : ℕ → Bool) (H : WeakPass t row booleans weaks truth begin x enter parts)
+      (top : ℕ) (l : top ≤ 64) (same : (j : ℕ) → bit left j ≡ bit weaks j && ltb j top) (d : WeakDown t row table weaks x live enter top old) where
     here : (bit weaks n ≡ true) × (n < top)
     here = tells_true (tells_and (tells_value (bit weaks n)) (tells_lt n top)) (sym (same n) ∙ turn.set)
 
     none : (j : ℕ) → suc n ≤ j → j < top → bit weaks j ≡ false
     none j a b = sym (and-true (bit weaks j)) ∙ sym (ap (λ (c : Bool). bit weaks j && c) (lt-ltb j top b)) ∙ sym (same j) ∙ high.above j a
 
-    after : WeakDown t row table weaks x live enter n r new tops'
-    after = done row table weaks truth x live enter H here.0 (lower t row table booleans weaks truth begin x live enter acts counts H top (suc n) here.1 l none d)
+    after : WeakDown t row table weaks x live enter n new
+    after = done row table weaks truth x live enter H here.0 (lower table live H top (suc n) here.1 l none d)
 
     same_rest : (j : ℕ) → bit rest j ≡ bit weaks j && ltb j n
     same_rest j = turn.each j ∙ elim (dec_lt j n) [
@@ -208,12 +202,10 @@ module _ {t : List ℕ} {booleans weaks begin : ℕ} {acts counts blank : List �
       ]
     ]
 
-  pub down_turn : DownLeft t booleans weaks begin acts counts blank rest r new tops'
+  pub down_turn : DownLeft t booleans weaks begin parts blank rest new
   down_turn = record {
-    sized = s;
-    tops_size = z;
     within = λ j e. h.within j (rest_in turn j e).0;
-    so_far = λ row table truth x live enter H zero-leads. (let f = h.so_far row table truth x live enter H zero-leads in (
+    so_far = λ row table truth x live enter H none-handed. (let f = h.so_far row table truth x live enter H none-handed in (
       n,
       omega (arith, turn.small),
       same_rest row table truth x live enter H f.0 f.1 f.2 f.3,
@@ -221,12 +213,12 @@ module _ {t : List ℕ} {booleans weaks begin : ℕ} {acts counts blank : List �
     ));
   }
 
-pub down_end : {t : List ℕ} {booleans weaks begin : ℕ} {acts counts blank : List ℕ} {left w : ℕ} {k : Arrays} {tops : List ℕ} → DownLeft t booleans weaks begin acts counts blank left w k tops → left ≡ 0
-    → WeaksDown t booleans weaks begin acts counts blank w tops k.leads
-down_end {t} {booleans} {weaks} {begin} {acts} {counts} {blank} {left} {w} {k} {tops} h e row table truth x live enter H zero-leads =
-    let f = h.so_far row table truth x live enter H zero-leads in
-    let d = lower t row table booleans weaks truth begin x live enter acts counts H f.0 0 (omega arith) f.1 (λ j a b. outside j f.0 b (f.2 j)) f.3 in
-    (d.met, λ n i z. lanes_of t row table booleans weaks truth begin x live enter acts counts H d n i z)
+pub down_end : {t : List ℕ} {booleans weaks begin : ℕ} {parts : Parts} {blank : Uses} {left : ℕ} {k : Uses} → DownLeft t booleans weaks begin parts blank left k → left ≡ 0
+    → WeaksDown t booleans weaks begin parts blank k
+down_end {t} {booleans} {weaks} {begin} {parts} {blank} {left} {k} h e row table truth x live enter H none-handed =
+    let f = h.so_far row table truth x live enter H none-handed in
+    let d = lower table live H f.0 0 (omega arith) f.1 (λ j a b. outside j f.0 b (f.2 j)) f.3 in
+    (d.met, λ n i z. lanes_of table live H d n i z)
   where
     outside : (j top : ℕ) → j < top → bit left j ≡ bit weaks j && ltb j top → bit weaks j ≡ false
     outside j top b s = sym (and-true (bit weaks j)) ∙ sym (ap (λ (c : Bool). bit weaks j && c) (lt-ltb j top b)) ∙ sym s ∙ ap (λ (y : ℕ). bit y j) e ∙ bit_none j

@@ -7,10 +7,8 @@ use mathlib.Core.Path.{◌≡◌, refl, sym, ◌∙◌, ap, ap₂, subst}
 use mathlib.Core.Bool.{Bool, true, false, ◌||◌}
 use mathlib.Core.List.{List}
 use mathlib.Core.Logic.{◌⊎◌, ⊎_elim}
-use lib.Bits.{bit_or}
 use lib.Dec.{T}
-use lib.ListN.{get_or, set}
-use lib.Seq.{get_or-set_same, get_or-set_other}
+use lib.ListN.{get_or}
 use Rattle.psl.specs.Booleans.{Boolean, bit, sample}
 use Rattle.psl.specs.Tells.{tells_eq, tells_dec, tells_or, tells_value, tells_true}
 use Rattle.words.specs.Bits.{bit_or_lem}
@@ -21,9 +19,13 @@ use Rattle.lanes.specs.DownPass.{Work, LandsBy}
 use Rattle.lanes.specs.Ideal.{whole_right}
 use Rattle.engine.specs.Reads.{kind_of}
 use Rattle.engine.specs.Weaks.{WeakOperand, is_cell, is_row, WeakRow, reads_then, reads_fuse, reads_alt, reads_star, reads_plus, reads_weak, weak_number}
-use Rattle.engine.specs.WeakUses.{UseIs, Arrays, Sized, Handed}
+use Rattle.engine.specs.declared.weak_parts.Parts.{Parts}
+use Rattle.engine.specs.declared.weak_uses.Use.{Use as UseBytes}
+use Rattle.engine.specs.declared.weak_uses.Uses.{Uses}
+use Rattle.engine.specs.WeakUses.{UseIs}
+use Rattle.engine.specs.WeakHanded.{use_at, Led, UsePut, Handed}
 use Rattle.engine.specs.WeakPass.{is_weak, WeakPass, finished, handed_to, cell_place, WeakWork}
-use Rattle.engine.proofs.WeakUp.{not_boolean, put_same, put_other}
+use Rattle.engine.proofs.WeakUp.{not_boolean}
 use Rattle.engine.proofs.WeakNumbers.{weak_is, number_one}
 
 -- a field has one operand
@@ -63,30 +65,30 @@ clash p q = subst T (sym p ∙ q) tt
 split_8 : (a b p q : ℕ) → p < 8 → q < 8 → 8 * a + p ≡ 8 * b + q → (a ≡ b) × (p ≡ q)
 split_8 a b p q h i e = (omega arith, omega arith)
 
-module _ (t : List ℕ) (row : ℕ → Row) (table : Table row) (booleans weaks truth begin x : ℕ) (live : ℕ → Bool → Bool) (enter : ℕ → Bool) (acts counts : List ℕ)
-    (H : WeakPass t row booleans weaks truth begin x enter acts counts) where
+module _ {t : List ℕ} {row : ℕ → Row} {booleans weaks truth begin x : ℕ} {enter : ℕ → Bool} {parts : Parts} (table : Table row) (live : ℕ → Bool → Bool)
+    (H : WeakPass t row booleans weaks truth begin x enter parts) where
   abbrev D : Work
   D = finished t row table weaks x live enter
 
   abbrev to : ℕ → Bool → Use
   to n f = handed_to t row table weaks x live enter n f
 
-  abbrev Working : (ℕ → Bool → Type 0) → Arrays → Type 0
+  abbrev Working : (ℕ → Bool → Type 0) → Uses → Type 0
   Working Seen k = WeakWork t row table weaks x live enter Seen k
 
-  abbrev Kept : Use → ℕ → ℕ → ℕ → Type 0
-  Kept u place into go = UseIs (is_weak t weaks) (weak_number t weaks) u place into go
+  abbrev Kept : Use → UseBytes → Type 0
+  Kept u b = UseIs (is_weak t weaks) (weak_number t weaks) u b
 
   pub lands : (n : ℕ) (f : Bool) (v : ℕ) → Has (row n) f v → LandsBy D (row v) n f v (to n f)
   lands n f v i = (whole_right row table live (sample x) enter).landed n (omega arith) f v i
 
   not_rest : {v : ℕ} → WeakRow t row booleans weaks truth x v → row v ≡ r_rest → ⊥
-  not_rest (reads_then e r f g) q = let z : ◌≡◌ {A = ℕ} 0 1 = cc in omega arith
-  not_rest (reads_fuse e r f g) q = let z : ◌≡◌ {A = ℕ} 0 1 = cc in omega arith
-  not_rest (reads_alt e r f g) q = let z : ◌≡◌ {A = ℕ} 0 1 = cc in omega arith
-  not_rest (reads_star e r f) q = let z : ◌≡◌ {A = ℕ} 0 1 = cc in omega arith
-  not_rest (reads_plus e r f) q = let z : ◌≡◌ {A = ℕ} 0 1 = cc in omega arith
-  not_rest (reads_weak e r f) q = let z : ◌≡◌ {A = ℕ} 0 1 = cc in omega arith
+  not_rest (reads_then e r f g) q = cc
+  not_rest (reads_fuse e r f g) q = cc
+  not_rest (reads_alt e r f g) q = cc
+  not_rest (reads_star e r f) q = cc
+  not_rest (reads_plus e r f) q = cc
+  not_rest (reads_weak e r f) q = cc
 
   pub row_low : (n : ℕ) → bit weaks n ≡ true → n < 64
   row_low n e = elim (dec_lt n 64) [ yes l ↦ l | no l ↦ absurd (not_rest (H.rows n e) (table.beyond n (omega arith))) ]
@@ -100,7 +102,7 @@ module _ (t : List ℕ) (row : ℕ → Row) (table : Table row) (booleans weaks 
   is_sequence (reads_weak e r f) h = absurd (omega arith)
 
   -- fewer fields are asked about
-  pub narrow : {Seen Fewer : ℕ → Bool → Type 0} {k : Arrays} → ((m : ℕ) (g : Bool) (u : ℕ) → Fewer m g → Has (row m) g u → Seen m g) → Working Seen k → Working Fewer k
+  pub narrow : {Seen Fewer : ℕ → Bool → Type 0} {k : Uses} → ((m : ℕ) (g : Bool) (u : ℕ) → Fewer m g → Has (row m) g u → Seen m g) → Working Seen k → Working Fewer k
   narrow up w = record {
     uses_are = λ m g u s i q. w.uses_are m g u (up m g u s i) i q;
     cells_in = λ m g u b s i e. w.cells_in m g u b (up m g u s i) i e;
@@ -111,25 +113,16 @@ module _ (t : List ℕ) (row : ℕ → Row) (table : Table row) (booleans weaks 
   With Seen n f m g = Seen m g ⊎ ((m ≡ n) × (g ≡ f))
 
   -- ONE OPERAND
-  module _ {Seen : ℕ → Bool → Type 0} {old new : Arrays} (w : Working Seen old) (fit : Sized old) (n : ℕ) (f : Bool) (v' v place into go : ℕ)
-      (h : Handed booleans v' place into go old new) (e : v' ≡ v) (small : n < 64) (has : Has (row n) f v) (used : Kept (to n f) place into go) where
-    place_low : place < 256
-    place_low = omega (arith, used.place_is, used.number_low, used.base_low)
-
+  module _ {Seen : ℕ → Bool → Type 0} {old new : Uses} (w : Working Seen old) (n : ℕ) (f : Bool) (v' v : ℕ) (b : UseBytes)
+      (h : Handed booleans v' b old new) (e : v' ≡ v) (small : n < 64) (has : Has (row n) f v) (used : Kept (to n f) b) where
     -- the field is n's f, so the operand is v
     same_operand : {m u : ℕ} {g : Bool} → (m ≡ n) × (g ≡ f) → Has (row m) g u → u ≡ v
-    same_operand {m} {u} {g} z i = has_one (row n) f u v (subst (λ b. Has (row n) b u) z.1 (subst (λ j. Has (row j) g u) z.0 i)) has
+    same_operand {m} {u} {g} z i = has_one (row n) f u v (subst (λ c. Has (row n) c u) z.1 (subst (λ j. Has (row j) g u) z.0 i)) has
 
-    module _ {b : Boolean} (low : v < 64) (in_booleans : bit booleans v ≡ true) (is : row v ≡ r_bool b) where
-      stored : (new.places ≡ old.places) × (new.intos ≡ old.intos) × (new.gos ≡ old.gos) × (new.leads ≡ set old.leads place (bit_or (get_or old.leads place 0) go))
-      stored = h.to_cell (ap (bit booleans) (ap (λ (k : ℕ). k % 64) e ∙ mod-eq_of_lt low) ∙ in_booleans)
+    at : v < 64 → v' % 64 ≡ v
+    at low = ap (λ (k : ℕ). k % 64) e ∙ mod-eq_of_lt low
 
-      here : get_or new.leads place 0 ≡ bit_or (get_or old.leads place 0) go
-      here = ap (λ (xs : List ℕ). get_or xs place 0) stored.3 ∙ get_or-set_same old.leads place (bit_or (get_or old.leads place 0) go) 0 (omega (arith, fit.leads_size, place_low))
-
-      elsewhere : (i : ℕ) → (i ≡ place → ⊥) → get_or new.leads i 0 ≡ get_or old.leads i 0
-      elsewhere i z = ap (λ (xs : List ℕ). get_or xs i 0) stored.3 ∙ get_or-set_other old.leads place i (bit_or (get_or old.leads place 0) go) 0 z
-
+    module _ {B : Boolean} (led : Led b old new) (is : row v ≡ r_bool B) where
       or_left : (a c : Bool) → a ≡ true → a || c ≡ true
       or_left a c z = rw z
 
@@ -137,38 +130,39 @@ module _ (t : List ℕ) (row : ℕ → Row) (table : Table row) (booleans weaks 
       or_right true c z = refl
       or_right false c z = z
 
+      at_place : (l : ℕ) → bit (get_or new.leads b.place 0) l ≡ bit (get_or old.leads b.place 0) l || bit b.go l
+      at_place l = ap (λ (y : ℕ). bit y l) led.here ∙ bit_or_lem (get_or old.leads b.place 0) b.go l
+
       -- bits stay
       stays : (i l : ℕ) → bit (get_or old.leads i 0) l ≡ true → bit (get_or new.leads i 0) l ≡ true
-      stays i l s = elim (tells_dec (tells_eq i place)) [
-        | yes z ↦ ap (λ (j : ℕ). bit (get_or new.leads j 0) l) z ∙ ap (λ (y : ℕ). bit y l) here ∙ bit_or_lem (get_or old.leads place 0) go l
-            ∙ or_left (bit (get_or old.leads place 0) l) (bit go l) (sym (ap (λ (j : ℕ). bit (get_or old.leads j 0) l) z) ∙ s)
-        | no z ↦ ap (λ (y : ℕ). bit y l) (elsewhere i z) ∙ s
+      stays i l s = elim (tells_dec (tells_eq i b.place)) [
+        | yes z ↦ ap (λ (j : ℕ). bit (get_or new.leads j 0) l) z ∙ at_place l ∙ or_left (bit (get_or old.leads b.place 0) l) (bit b.go l) (sym (ap (λ (j : ℕ). bit (get_or old.leads j 0) l) z) ∙ s)
+        | no z ↦ ap (λ (y : ℕ). bit y l) (led.elsewhere i z) ∙ s
       ]
 
       comes : (l : ℕ) → l < 7 → (to n f).go l ≡ true → bit (get_or new.leads (cell_place t row table weaks x live enter n f) 0) l ≡ true
-      comes l i s = ap (λ (j : ℕ). bit (get_or new.leads j 0) l) (sym used.place_is) ∙ ap (λ (y : ℕ). bit y l) here ∙ bit_or_lem (get_or old.leads place 0) go l
-          ∙ or_right (bit (get_or old.leads place 0) l) (bit go l) (used.go_are l i ∙ s)
+      comes l i s = ap (λ (j : ℕ). bit (get_or new.leads j 0) l) (sym used.place_is) ∙ at_place l ∙ or_right (bit (get_or old.leads b.place 0) l) (bit b.go l) (used.go_are l i ∙ s)
 
-      in_rel : (l : ℕ) → l < 7 → bit go l ≡ true → D.rel (to n f).owner l (to n f).base ≡ true
+      in_rel : (l : ℕ) → l < 7 → bit b.go l ≡ true → D.rel (to n f).owner l (to n f).base ≡ true
       in_rel l i s = (rw is at (lands n f v has)).apart used.owner_low l i (sym (used.go_are l i) ∙ s)
 
       right : (o q l : ℕ) → is_weak t weaks o ≡ true → q < 8 → l < 7 → bit (get_or new.leads (8 * weak_number t weaks o + q) 0) l ≡ true → D.rel o l q ≡ true
-      right o q l k i j s = elim (tells_dec (tells_eq (8 * weak_number t weaks o + q) place)) [
-        | yes z ↦ at_place z
-        | no z ↦ w.cells_right o q l k i j (sym (ap (λ (y : ℕ). bit y l) (elsewhere (8 * weak_number t weaks o + q) z)) ∙ s)
+      right o q l k i j s = elim (tells_dec (tells_eq (8 * weak_number t weaks o + q) b.place)) [
+        | yes z ↦ new_lane z
+        | no z ↦ w.cells_right o q l k i j (sym (ap (λ (y : ℕ). bit y l) (led.elsewhere (8 * weak_number t weaks o + q) z)) ∙ s)
       ]
         where
-          at_place : 8 * weak_number t weaks o + q ≡ place → D.rel o l q ≡ true
-          at_place z = let both = split_8 (weak_number t weaks o) (weak_number t weaks (to n f).owner) q (to n f).base i used.base_low (z ∙ used.place_is) in
+          new_lane : 8 * weak_number t weaks o + q ≡ b.place → D.rel o l q ≡ true
+          new_lane z = let both = split_8 (weak_number t weaks o) (weak_number t weaks (to n f).owner) q (to n f).base i used.base_low (z ∙ used.place_is) in
               let same = number_one t weaks o (to n f).owner (row_low o (weak_is t weaks o k).0) used.owner_low k used.owner_is both.0 in
               ⊎_elim (λ y. w.cells_right o q l k i j (ap (λ (m : ℕ). bit (get_or old.leads m 0) l) z ∙ y))
               (λ y. ap₂ (λ (m r : ℕ). D.rel m l r) same both.1 ∙ in_rel l j y)
-              (tells_true (tells_or (tells_value (bit (get_or old.leads place 0) l)) (tells_value (bit go l)))
-              (sym (ap (λ (m : ℕ). bit (get_or new.leads m 0) l) z ∙ ap (λ (y : ℕ). bit y l) here ∙ bit_or_lem (get_or old.leads place 0) go l) ∙ s))
+              (tells_true (tells_or (tells_value (bit (get_or old.leads b.place 0) l)) (tells_value (bit b.go l)))
+              (sym (ap (λ (m : ℕ). bit (get_or new.leads m 0) l) z ∙ at_place l) ∙ s))
 
       to_cell : Working (With Seen n f) new
       to_cell = record {
-        uses_are = λ m g u s i q. rw (stored.0, stored.1, stored.2) (⊎_elim (λ y. w.uses_are m g u y i q)
+        uses_are = λ m g u s i q. rw led.uses_stay (⊎_elim (λ y. w.uses_are m g u y i q)
             (λ y. absurd (subst IsSequence (ap row (same_operand y i) ∙ is) q)) s);
         cells_in = λ m g u c s i d l j y. ⊎_elim (λ z. stays (cell_place t row table weaks x live enter m g) l (w.cells_in m g u c z i d l j y))
             (λ z. subst (λ k. bit (get_or new.leads (cell_place t row table weaks x live enter k g) 0) l ≡ true) (sym z.0)
@@ -177,38 +171,23 @@ module _ (t : List ℕ) (row : ℕ → Row) (table : Table row) (booleans weaks 
         cells_right = right;
       }
 
-    module _ (low : v < 64) (no_boolean : bit booleans v ≡ false) (reads : WeakRow t row booleans weaks truth x v) where
-      kept : (new.places ≡ set old.places (v' % 64) place) × (new.intos ≡ set old.intos (v' % 64) into) × (new.gos ≡ set old.gos (v' % 64) go) × (new.leads ≡ old.leads)
-      kept = h.to_row (ap (bit booleans) (ap (λ (k : ℕ). k % 64) e ∙ mod-eq_of_lt low) ∙ no_boolean)
-
-      at_v : (u : ℕ) → u ≡ v → IsSequence (row u) → Kept (D.uses u) (get_or new.places u 0) (get_or new.intos u 0) (get_or new.gos u 0)
-      at_v u z q =
-          let s : v' < 64 = omega arith in
-          let y : u ≡ v' = z ∙ sym e in
-          rw (
-            put_same old.places new.places v' u place s fit.places_size kept.0 y,
-            put_same old.intos new.intos v' u into s fit.intos_size kept.1 y,
-            put_same old.gos new.gos v' u go s fit.gos_size kept.2 y,
-          )
-          (subst (λ k. Kept k place into go) (sym (ap D.uses z ∙ lands_row D (row v) n f v (to n f) (subst (λ k. IsSequence (row k)) z q) (lands n f v has))) used)
-
-      not_v : (u : ℕ) → (u ≡ v → ⊥) → Kept (D.uses u) (get_or old.places u 0) (get_or old.intos u 0) (get_or old.gos u 0) → Kept (D.uses u) (get_or new.places u 0) (get_or new.intos u 0) (get_or new.gos u 0)
-      not_v u z k =
-          let s : v' < 64 = omega arith in
-          let y : u ≡ v' → ⊥ = λ d. z (d ∙ e) in
-          rw (put_other old.places new.places v' u place s kept.0 y, put_other old.intos new.intos v' u into s kept.1 y, put_other old.gos new.gos v' u go s kept.2 y) k
+    module _ (put : UsePut v b old new) (reads : WeakRow t row booleans weaks truth x v) where
+      at_v : (u : ℕ) → u ≡ v → IsSequence (row u) → Kept (D.uses u) (use_at new u)
+      at_v u z q = rw (z, put.here) (subst (λ k. Kept k b) (sym (lands_row D (row v) n f v (to n f) (subst (λ k. IsSequence (row k)) z q) (lands n f v has))) used)
 
       to_row : Working (With Seen n f) new
       to_row = record {
         uses_are = λ m g u s i q. elim (tells_dec (tells_eq u v)) [
           | yes z ↦ at_v u z q
-          | no z ↦ not_v u z (⊎_elim (λ y. w.uses_are m g u y i q) (λ y. absurd (z (same_operand y i))) s)
+          | no z ↦ rw (put.elsewhere u z) (⊎_elim (λ y. w.uses_are m g u y i q) (λ y. absurd (z (same_operand y i))) s)
         ];
-        cells_in = λ m g u c s i d l j y. rw kept.3 (⊎_elim (λ z. w.cells_in m g u c z i d l j y)
+        cells_in = λ m g u c s i d l j y. rw put.leads_stay (⊎_elim (λ z. w.cells_in m g u c z i d l j y)
             (λ z. absurd (not_boolean t row live booleans weaks truth x reads (ap row (sym (same_operand z i)) ∙ d))) s);
-        cells_right = λ o q l k i j s. w.cells_right o q l k i j (rw kept.3 at s);
+        cells_right = λ o q l k i j s. w.cells_right o q l k i j (rw put.leads_stay at s);
       }
 
     pub hand_one : WeakOperand t row booleans weaks truth x n v → Working (With Seen n f) new
-    hand_one (is_cell l b r q) = to_cell l b r
-    hand_one (is_row l b k q) = to_row (omega arith) b (H.rows v k)
+    hand_one (is_cell l z r q) = to_cell (h.to_cell (ap (bit booleans) (at l) ∙ z)) r
+    hand_one (is_row l z k q) =
+        let low : v < 64 = omega arith in
+        to_row (subst (λ u. UsePut u b old new) (at low) (h.to_row (ap (bit booleans) (at low) ∙ z))) (H.rows v k)

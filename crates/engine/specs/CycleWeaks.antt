@@ -1,8 +1,9 @@
 -- What is left of the weak sequences of a property after a sample: nothing to do where there are none; else their lanes, and the families moved by them.
-use Rattle.std.specs.Prelude.{ℕ, ◌≤◌, ◌≡◌, Bool, true, List}
+use Rattle.std.specs.Prelude.{ℕ, ◌≡◌, Bool, true, List}
 use Rattle.psl.specs.Booleans.{bit}
 use Rattle.lanes.specs.Rows.{Row}
 use Rattle.lanes.specs.Expected.{Table}
+use Rattle.engine.specs.declared.weak_parts.Parts.{Parts}
 use Rattle.engine.specs.Reads.{kind_of}
 use Rattle.engine.specs.Weaks.{weaks_above, weak_number, WeakLanes}
 use Rattle.engine.specs.WeakParts.{WeaksUp}
@@ -23,5 +24,4 @@ pub data WeaksLeft (t : List ℕ) (row : ℕ → Row) (rows : Table row) (weaks 
 
 -- What has to be known of the property, beside the parts that the upward pass finds.
 abbrev pub WeaksTold : List ℕ → (ℕ → Row) → ℕ → ℕ → ℕ → ℕ → ℕ → (ℕ → Bool) → Type 0
-WeaksTold t row booleans weaks truth begin x enter = ((acts counts : List ℕ) → WeaksUp t booleans weaks truth acts counts → WeakPass t row booleans weaks truth begin x enter acts counts)
-    × (weaks_above t weaks 64 ≤ 32)
+WeaksTold t row booleans weaks truth begin x enter = (parts : Parts) → WeaksUp t booleans weaks truth parts → WeakPass t row booleans weaks truth begin x enter parts

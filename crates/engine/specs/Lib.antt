@@ -8,6 +8,7 @@ pub mod SideSteps
 pub mod Weaks
 pub mod WeakParts
 pub mod WeakUses
+pub mod WeakHanded
 pub mod WeakPass
 pub mod Families
 pub mod FamilySteps

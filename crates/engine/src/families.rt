@@ -4,65 +4,53 @@ ghost use Rattle.std.specs.Prelude.{ℕ, ◌+◌, ◌*◌, ◌<◌, ◌≤◌, �
 ghost use Rattle.engine.specs.Families.{leads_in, Moved};
 ghost use Rattle.engine.specs.FamilySteps.{Lacks, Without, Spread, Led, Leads, set_of, threes, image_of, image_by, Walked, Stepped, OneMoved};
 
-// The sets of a family that hold none of the cells 0 to 2 of ends: each mask has the sets without one cell.
-fn masked_low(family: u64, ends: u8) -> u64
-    ensures { Lacks family ends 3 result }
-{
-    let mut left = family;
-    if ends % 2 == 1 {
-        left = left & 0x5555555555555555;
-    }
-    if ends / 2 % 2 == 1 {
-        left = left & 0x3333333333333333;
-    }
-    if ends / 4 % 2 == 1 {
-        left = left & 0x0f0f0f0f0f0f0f0f;
-    }
-    left
-}
+use crate::weak_uses::Uses;
 
-// The same with the cells 3 to 5.
-fn masked_high(family: u64, ends: u8) -> u64
-    ensures { (whole : ℕ) → Lacks whole ends 3 family → Lacks whole ends 6 result }
-{
-    let mut left = family;
-    if ends / 8 % 2 == 1 {
-        left = left & 0x00ff00ff00ff00ff;
-    }
-    if ends / 16 % 2 == 1 {
-        left = left & 0x0000ffff0000ffff;
-    }
-    if ends / 32 % 2 == 1 {
-        left = left & 0x00000000ffffffff;
-    }
-    left
-}
+// Of each cell, the sets without it.
+const MASKS: [u64; 6] = [
+    0x5555555555555555,
+    0x3333333333333333,
+    0x0f0f0f0f0f0f0f0f,
+    0x00ff00ff00ff00ff,
+    0x0000ffff0000ffff,
+    0x00000000ffffffff,
+];
 
-fn without_low(family: u64, ends: u8) -> u64
-    ensures { Lacks family ends 3 result }
+// The sets of a family that hold none of three cells of ends, those from `first` on. Mostly none of the three ends.
+fn without_three(family: u64, ends: u8, first: u8) -> u64
+    requires { first ≤ 3 }
+    ensures { (whole : ℕ) → Lacks whole ends first family → Lacks whole ends (first + 3) result }
 {
-    if ends % 8 == 0 {
+    if (ends >> first) % 8 == 0 {
         return family;
     }
-    masked_low(family, ends)
+    let mut left = family;
+    for cell in first..first + 3 {
+        if words::bit(ends as u64, cell) {
+            left &= MASKS[cell as usize];
+        }
+    }
+    left
 }
 
-// The sets of a family that hold no cell of ends, of which there are few.
+// The sets of a family that hold no cell of ends.
 fn without(family: u64, ends: u8) -> u64
     ensures { Without family ends result }
 {
-    let low = without_low(family, ends);
-    if ends / 8 % 8 == 0 {
-        return low;
-    }
-    masked_high(low, ends)
+    without_three(without_three(family, ends, 0), ends, 3)
 }
+
+// Bits that stand seven places apart: times a number below 128 they are its copies, and bit l of it stands at 8 * l.
+const SEVEN_APART: u64 = 0x0002040810204081;
+
+// The lowest bit of each byte.
+const LOWEST_OF_EACH: u64 = 0x0101010101010101;
 
 // Byte l of the result is bit l of the lanes, of which there are seven.
 fn spread(lanes: u8) -> u64
     ensures { Spread lanes result }
 {
-    ((lanes % 128) as u64) * 567382630219905 & 72340172838076673
+    ((lanes % 128) as u64) * SEVEN_APART & LOWEST_OF_EACH
 }
 
 // The cell q of weak sequence w, added to each lane that leads to it.
@@ -79,12 +67,11 @@ fn turned(w: u8, leads: &[u8; 256]) -> u64
     requires { w < 32 }
     ensures { Leads (leads_in leads.now w) result }
 {
-    led(w, 0, leads)
-        | led(w, 1, leads)
-        | led(w, 2, leads)
-        | led(w, 3, leads)
-        | led(w, 4, leads)
-        | led(w, 5, leads)
+    let mut sets = 0;
+    for q in 0..6 {
+        sets |= led(w, q, leads);
+    }
+    sets
 }
 
 // The set that lane l leads to.
@@ -95,9 +82,9 @@ fn set(sets: u64, l: u8) -> u8
     ((sets >> (8 * l)) % 64) as u8
 }
 
-// Where the sets of three cells lead that lead to x, y, z.
+// Where the sets of three cells lead that lead to x, y, z. The two tables are filled in place and stand apart: of arrays by value, or in one struct, the
+// compiler makes vectors, and a family costs 10 to 50 instructions more.
 fn images(x: u8, y: u8, z: u8, to: &mut [u8; 8])
-    requires { length to.old ≡ 8 }
     ensures { to.new ≡ threes x y z }
 {
     to[0] = 0;
@@ -114,20 +101,15 @@ fn images(x: u8, y: u8, z: u8, to: &mut [u8; 8])
 fn image(p: u8, low: &[u8; 8], high: &[u8; 8]) -> u8
     ensures { result ≡ image_of low.now high.now p }
 {
-    let i = (p % 8) as usize;
-    let j = (p / 8 % 8) as usize;
-    high[j] | low[i]
+    high[(p / 8 % 8) as usize] | low[(p % 8) as usize]
 }
 
 // Every set of a family moved.
 fn walked(family: u64, low: &[u8; 8], high: &[u8; 8]) -> u64
     ensures { Walked (image_of low.now high.now) family result }
 {
-    let mut next: u64 = 0;
-    let mut left = family;
-    while left != 0 {
-        let p = words::lowest(left);
-        left = words::without_lowest(left);
+    let mut next = 0;
+    for p in words::Members(family) {
         next = words::with_bit(next, image(p, low, high), true);
     }
     next
@@ -139,8 +121,8 @@ fn moved(family: u64, sets: u64) -> u64
     if family == 0 {
         return 0;
     }
-    let mut low = [0u8; 8];
-    let mut high = [0u8; 8];
+    let mut low = [0; 8];
+    let mut high = [0; 8];
     images(set(sets, 0), set(sets, 1), set(sets, 2), &mut low);
     images(set(sets, 3), set(sets, 4), set(sets, 5), &mut high);
     walked(family, &low, &high)
@@ -155,36 +137,28 @@ fn family(old: u64, sets: u64, top: u8) -> u64
 }
 
 // Moves the family w; answers all, with the sets that are left of it.
-fn one(w: u8, all: u64, families: &mut [u64; 32], leads: &[u8; 256], tops: &[u8; 32]) -> u64
-    requires { (w < 32) × (length families.old ≡ 32) }
-    ensures { OneMoved w all tops.now leads.now families.old families.new result }
+fn one(w: u8, all: u64, families: &mut [u64; 32], uses: &Uses) -> u64
+    requires { w < 32 }
+    ensures { OneMoved w all uses.now.tops uses.now.leads families.old families.new result }
 {
     let i = w as usize;
     let old = families[i];
-    let top = tops[i];
+    let top = uses.tops[i];
     if old == 0 && top < 128 {
         return all;
     }
-    let next = family(old, turned(w, leads), top);
+    let next = family(old, turned(w, &uses.leads), top);
     families[i] = next;
     all | next
 }
 
-// Moves the first `count` families; answers all sets that are left.
-pub(crate) fn families(
-    count: u8,
-    families: &mut [u64; 32],
-    leads: &[u8; 256],
-    tops: &[u8; 32],
-) -> u64
-    requires { (count ≤ 32) × (length families.old ≡ 32) }
-    ensures { Moved count tops.now leads.now families.old families.new result }
+// Moves the families of the weak sequences that were met; answers all sets that are left.
+pub(crate) fn families(uses: &Uses, families: &mut [u64; 32]) -> u64
+    ensures { Moved uses.now.met uses.now.tops uses.now.leads families.old families.new result }
 {
-    let mut all: u64 = 0;
-    let mut w: u8 = 0;
-    while w < count {
-        all = one(w, all, &mut *families, leads, tops);
-        w += 1;
+    let mut all = 0;
+    for w in 0..uses.met {
+        all = one(w, all, &mut *families, uses);
     }
     all
 }

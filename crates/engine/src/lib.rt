@@ -2,11 +2,16 @@
 
 #![tactic(auto)]
 
+mod bits;
+mod by_row;
 pub mod cycle;
 mod families;
+mod kinds;
 pub mod plan;
 mod properties;
+mod row;
 mod rows;
+mod side_flags;
 mod sides;
 mod truths;
 mod weak_parts;

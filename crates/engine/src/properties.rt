@@ -1,16 +1,19 @@
 // The property rows, downwards: which begin now, which stay held, whether a never breaks.
 // A row is visited where an attempt begins, was held, or its left side ends.
-ghost use Rattle.std.specs.Prelude.{◌≡◌, Bool, ◌&&◌, ℕ};
+ghost use Rattle.std.specs.Prelude.{◌≡◌, Bool, true, ◌&&◌, ℕ, ◌%◌};
 ghost use Rattle.psl.specs.Booleans.{bit};
 ghost use Rattle.psl.proofs.Model.Nodes.{Node};
-ghost use Rattle.engine.specs.Reads.{Held};
+ghost use Rattle.table.specs.Choice.{pick};
+ghost use Rattle.engine.specs.Reads.{a_of, b_of, c_of};
 ghost use Rattle.engine.specs.Properties.{PropertyRows, Passed, Visits};
-ghost use Rattle.engine.specs.PropertyVisits.{stage_of, begun_at, kept_at, branch_at, guard_at, later_at, lasts_at, lasting_at, plain_at, early_at, matched_at, running_at, owes_at, left_at, visit_at, called, Visitable};
+ghost use Rattle.engine.specs.PropertyVisits.{stage_of, begun_at, kept_at, early_at, matched_at, running_at, owes_at, visit_at, called, Visitable};
 
+use crate::kinds::{ALWAYS, BOTH, IF, IMPLIES, NEVER, NEXT, OR, SUFFIX, UNTIL};
+use crate::row::HeldRow;
 use crate::rows;
 
 // The rows over a left side that ends on this letter: by an attempt under way, and by one that begins now. And those over one that can be empty.
-#[derive(Clone, Copy)]
+#[derive(Clone, Copy, PartialEq, Eq, Default)]
 pub struct Hits {
     pub ends: u64,
     pub early: u64,
@@ -25,6 +28,7 @@ pub struct Letter {
     pub hits: Hits,
 }
 
+// The rows that begin, those that stay held, whether a never breaks.
 #[derive(Clone, Copy)]
 pub struct Pass {
     pub begin: u64,
@@ -32,160 +36,101 @@ pub struct Pass {
     pub broken: bool,
 }
 
-fn begun(p: Pass, v: u8, on: bool) -> Pass
-    ensures { stage_of result ≡ begun_at (stage_of p) v on }
-{
-    Pass {
-        begin: words::with_bit(p.begin, v, on),
-        held: p.held,
-        broken: p.broken,
+impl Letter {
+    // Whether a left side that can end at once does: that of the row, or a Boolean standing as one.
+    fn early(self, row: HeldRow<'_>) -> bool
+        ensures { result ≡ early_at row.entry.table.now row.entry.n self }
+    {
+        words::bit(self.hits.early, row.n) | words::bit(self.truth, row.a())
+    }
+
+    // Whether a match of a left side ends: of an attempt under way, or of one that begins now, where `on`.
+    fn matched(self, row: HeldRow<'_>, on: bool) -> bool
+        ensures { result ≡ matched_at row.entry.table.now row.entry.n self on }
+    {
+        words::bit(self.hits.ends, row.n) | (self.early(row) & on)
     }
 }
 
-fn kept(p: Pass, n: u8, on: bool) -> Pass
-    ensures { stage_of result ≡ kept_at (stage_of p) n on }
-{
-    Pass {
-        begin: p.begin,
-        held: words::with_bit(p.held, n, on),
-        broken: p.broken,
+impl Pass {
+    // Row v begins, where on.
+    fn begun(self, v: u8, on: bool) -> Pass
+        ensures { stage_of result ≡ begun_at (stage_of self) v on }
+    {
+        Pass {
+            begin: words::with_bit(self.begin, v, on),
+            ..self
+        }
     }
-}
 
-// both, if: row n begins.
-fn branch(table: &[u8], n: u8, kind: u8, truth: u64, p: Pass) -> Pass
-    requires { Held table.now n }
-    ensures { stage_of result ≡ branch_at table.now n kind truth (stage_of p) }
-{
-    if kind == 33 {
-        return begun(begun(p, rows::a(table, n), true), rows::b(table, n), true);
+    // Row n stays held, where on.
+    fn kept(self, n: u8, on: bool) -> Pass
+        ensures { stage_of result ≡ kept_at (stage_of self) n on }
+    {
+        Pass {
+            held: words::with_bit(self.held, n, on),
+            ..self
+        }
     }
-    if words::bit(truth, rows::a(table, n)) {
-        begun(p, rows::b(table, n), true)
-    } else {
-        begun(p, rows::c(table, n), true)
+
+    // if: the row begins.
+    fn branch(self, row: HeldRow<'_>, truth: u64) -> Pass
+        ensures { stage_of result ≡ pick (bit truth (a_of row.entry.table.now row.entry.n % 64))
+            (begun_at (stage_of self) (b_of row.entry.table.now row.entry.n) true) (begun_at (stage_of self) (c_of row.entry.table.now row.entry.n) true) }
+    {
+        if words::bit(truth, row.a()) {
+            self.begun(row.b(), true)
+        } else {
+            self.begun(row.c(), true)
+        }
     }
-}
 
-// ->, or: row n begins.
-fn guard(table: &[u8], n: u8, kind: u8, truth: u64, p: Pass) -> Pass
-    requires { Held table.now n }
-    ensures { stage_of result ≡ guard_at table.now n kind truth (stage_of p) }
-{
-    if kind == 36 {
-        return begun(p, rows::b(table, n), words::bit(truth, rows::a(table, n)));
+    // always, until: the row begins or runs, and goes on where on.
+    fn lasting(self, row: HeldRow<'_>, on: bool) -> Pass
+        ensures { stage_of result ≡ kept_at (begun_at (stage_of self) (a_of row.entry.table.now row.entry.n) on) row.entry.n on }
+    {
+        self.begun(row.a(), on).kept(row.n, on)
     }
-    begun(p, rows::a(table, n), !words::bit(truth, rows::b(table, n)))
-}
 
-// next.
-fn later(table: &[u8], n: u8, was: u64, p: Pass) -> Pass
-    requires { Held table.now n }
-    ensures { stage_of result ≡ later_at table.now n was (stage_of p) }
-{
-    kept(
-        begun(p, rows::a(table, n), words::bit(was, n)),
-        n,
-        words::bit(p.begin, n),
-    )
-}
-
-// Whether row n goes on: always does, until where its release does not hold.
-fn lasts(table: &[u8], n: u8, kind: u8, truth: u64) -> bool
-    requires { Held table.now n }
-    ensures { result ≡ lasts_at table.now n kind truth }
-{
-    if kind == 38 {
-        return true;
+    // never: it runs from where it begins.
+    fn running(self, row: HeldRow<'_>, l: Letter) -> Pass
+        ensures { stage_of result ≡ running_at row.entry.table.now row.entry.n l (stage_of self) }
+    {
+        let on = words::bit(self.begin, row.n) | words::bit(l.was, row.n);
+        Pass {
+            broken: self.broken | l.matched(row, on),
+            ..self.kept(row.n, on)
+        }
     }
-    !words::bit(truth, rows::b(table, n))
-}
 
-// always, until: row n begins or runs.
-fn lasting(table: &[u8], n: u8, kind: u8, truth: u64, p: Pass) -> Pass
-    requires { Held table.now n }
-    ensures { stage_of result ≡ lasting_at table.now n kind truth (stage_of p) }
-{
-    let on = lasts(table, n, kind, truth);
-    kept(begun(p, rows::a(table, n), on), n, on)
-}
-
-fn plain(table: &[u8], n: u8, kind: u8, l: Letter, p: Pass) -> Pass
-    requires { Held table.now n }
-    ensures { stage_of result ≡ plain_at table.now n kind l (stage_of p) }
-{
-    if kind == 34 {
-        return later(table, n, l.was, p);
+    // Whether |=> in row n owes its right side now: its left side ended on the last letter, or can be empty and the row begins.
+    fn owes(self, n: u8, l: Letter) -> bool
+        ensures { result ≡ owes_at n l (stage_of self) }
+    {
+        words::bit(l.was, n) | (words::bit(self.begin, n) & words::bit(l.hits.empty, n))
     }
-    if 38 <= kind {
-        return lasting(table, n, kind, l.truth, p);
-    }
-    if 36 <= kind {
-        return guard(table, n, kind, l.truth, p);
-    }
-    branch(table, n, kind, l.truth, p)
-}
 
-// Whether a left side that can end at once does: that of row n, or a Boolean standing as one.
-fn early(table: &[u8], n: u8, l: Letter) -> bool
-    requires { Held table.now n }
-    ensures { result ≡ early_at table.now n l }
-{
-    words::bit(l.hits.early, n) | words::bit(l.truth, rows::a(table, n))
-}
-
-// Whether a match of a left side ends: of an attempt under way, or of one that begins now, where `on`.
-fn matched(table: &[u8], n: u8, l: Letter, on: bool) -> bool
-    requires { Held table.now n }
-    ensures { result ≡ matched_at table.now n l on }
-{
-    words::bit(l.hits.ends, n) | (early(table, n, l) & on)
-}
-
-// never: it runs from where it begins.
-fn running(table: &[u8], n: u8, l: Letter, p: Pass) -> Pass
-    requires { Held table.now n }
-    ensures { stage_of result ≡ running_at table.now n l (stage_of p) }
-{
-    let on = words::bit(p.begin, n) | words::bit(l.was, n);
-    Pass {
-        begin: p.begin,
-        held: words::with_bit(p.held, n, on),
-        broken: p.broken | matched(table, n, l, on),
-    }
-}
-
-// Whether |=> in row n owes its right side now: its left side ended on the last letter, or can be empty and the row begins.
-fn owes(n: u8, l: Letter, p: Pass) -> bool
-    ensures { result ≡ owes_at n l (stage_of p) }
-{
-    words::bit(l.was, n) | (words::bit(p.begin, n) & words::bit(l.hits.empty, n))
-}
-
-// |->, |=>, never.
-fn left(table: &[u8], n: u8, kind: u8, l: Letter, p: Pass) -> Pass
-    requires { Held table.now n }
-    ensures { stage_of result ≡ left_at table.now n kind l (stage_of p) }
-{
-    if kind == 42 {
-        return running(table, n, l, p);
-    }
-    let ended = matched(table, n, l, words::bit(p.begin, n));
-    if kind == 40 {
-        return begun(p, rows::b(table, n), ended);
-    }
-    kept(begun(p, rows::b(table, n), owes(n, l, p)), n, ended)
-}
-
-fn row(table: &[u8], n: u8, l: Letter, p: Pass) -> Pass
-    requires { Held table.now n }
-    ensures { stage_of result ≡ visit_at table.now n l (stage_of p) }
-{
-    let kind = rows::kind(table, n);
-    if kind < 40 {
-        plain(table, n, kind, l, p)
-    } else {
-        left(table, n, kind, l, p)
+    // A row that begins, was held, or has a left side that ends. It is of a property, so below and above the kinds told apart there is one each, if and |=>.
+    fn visit(self, row: HeldRow<'_>, l: Letter) -> Pass
+        ensures { stage_of result ≡ visit_at row.entry.table.now row.entry.n l (stage_of self) }
+    {
+        let n = row.n;
+        match row.kind() {
+            BOTH => self.begun(row.a(), true).begun(row.b(), true),
+            NEXT => self
+                .kept(n, words::bit(self.begin, n))
+                .begun(row.a(), words::bit(l.was, n)),
+            ..=IF => self.branch(row, l.truth),
+            IMPLIES => self.begun(row.b(), words::bit(l.truth, row.a())),
+            OR => self.begun(row.a(), !words::bit(l.truth, row.b())),
+            ALWAYS => self.lasting(row, true),
+            UNTIL => self.lasting(row, !words::bit(l.truth, row.b())),
+            SUFFIX => self.begun(row.b(), l.matched(row, words::bit(self.begin, n))),
+            NEVER => self.running(row, l),
+            _ => self
+                .kept(n, l.matched(row, words::bit(self.begin, n)))
+                .begun(row.b(), self.owes(n, l)),
+        }
     }
 }
 
@@ -215,12 +160,9 @@ pub(crate) fn downward(table: &[u8], first: u64, leaves: u64, l: Letter) -> Pass
         broken: false,
     };
     let mut ahead = visitable(table, leaves);
-    let mut left = visits(l, p, ahead);
-    while left != 0 {
-        let n = words::highest(left);
+    while let Some(n) = words::Members(visits(l, p, ahead)).next_back() {
         ahead = words::without_bit(ahead, n);
-        p = row(table, n, l, p);
-        left = visits(l, p, ahead);
+        p = p.visit(HeldRow { table, n }, l);
     }
     p
 }

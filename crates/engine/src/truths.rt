@@ -2,51 +2,37 @@
 ghost use Rattle.std.specs.Prelude.{◌≡◌, Bool, ℕ, ◌%◌};
 ghost use Rattle.psl.specs.Booleans.{Boolean, bit};
 ghost use Rattle.words.specs.Sets.{WithBit};
-ghost use Rattle.engine.specs.Reads.{kind_of, Held, Within};
-ghost use Rattle.engine.specs.Truths.{compound_at, holds_at, BooleanRows, Truth, OnlyIn};
+ghost use Rattle.engine.specs.Reads.{kind_of, Within};
+ghost use Rattle.engine.specs.Truths.{holds_at, BooleanRows, Truth, OnlyIn};
 
-use crate::rows;
+use crate::kinds::{AND, FALSE, NOT, SIGNAL, TRUE};
+use crate::row::HeldRow;
 
-// A row that is neither a constant nor a signal.
-fn compound(table: &[u8], n: u8, kind: u8, truth: u64) -> bool
-    requires { Held table.now n }
-    ensures { result ≡ compound_at table.now n kind truth }
+// Whether a Boolean row holds that is no signal, the truth of smaller rows being known.
+fn holds(row: HeldRow<'_>, kind: u8, truth: u64) -> bool
+    requires { (kind ≡ kind_of row.table.now row.n) × (kind ≡ 3 → ⊥) }
+    ensures { (sample : ℕ) → result ≡ holds_at row.entry.table.now row.entry.n truth sample }
 {
-    let a = words::bit(truth, rows::a(table, n));
-    if kind == 4 {
+    if kind <= FALSE {
+        return kind == TRUE;
+    }
+    let a = words::bit(truth, row.a());
+    if kind == NOT {
         return !a;
     }
-    let b = words::bit(truth, rows::b(table, n));
-    if kind == 5 { a & b } else { a | b }
+    let b = words::bit(truth, row.b());
+    if kind == AND { a & b } else { a | b }
 }
 
-// Whether Boolean row n holds, which is no signal, the truth of smaller rows being known.
-fn holds(table: &[u8], n: u8, kind: u8, truth: u64) -> bool
-    requires { Held table.now n × (kind ≡ kind_of table.now n) × (kind ≡ 3 → ⊥) }
-    ensures { (sample : ℕ) → result ≡ holds_at table.now n truth sample }
+// The truth with that of the row. Its kind is not told by one match: the compiler would make a table of jumps, and each signal cost ten instructions more.
+fn with_row(row: HeldRow<'_>, truth: u64, sample: u32) -> u64
+    ensures { WithBit truth row.entry.n (holds_at row.entry.table.now row.entry.n truth sample) result }
 {
-    if kind < 3 {
-        return kind == 1;
+    let kind = row.kind();
+    if kind == SIGNAL {
+        return words::with_bit(truth, row.n, words::bit(sample as u64, row.a()));
     }
-    compound(table, n, kind, truth)
-}
-
-// The truth with that of row n, which is signal a.
-fn with_signal(truth: u64, n: u8, a: u8, sample: u32) -> u64
-    ensures { WithBit truth n (bit sample (a % 64)) result }
-{
-    truth | ((((sample as u64) >> (a % 64)) % 2) << (n % 64))
-}
-
-fn row(table: &[u8], n: u8, truth: u64, sample: u32) -> u64
-    requires { Held table.now n }
-    ensures { WithBit truth n (holds_at table.now n truth sample) result }
-{
-    let kind = rows::kind(table, n);
-    if kind == 3 {
-        return with_signal(truth, n, rows::a(table, n), sample);
-    }
-    words::with_bit(truth, n, holds(table, n, kind, truth))
+    words::with_bit(truth, row.n, holds(row, kind, truth))
 }
 
 pub(crate) fn truths(table: &[u8], booleans: u64, sample: u32) -> u64
@@ -55,11 +41,8 @@ pub(crate) fn truths(table: &[u8], booleans: u64, sample: u32) -> u64
     ensures each { (value : ℕ → Boolean) → BooleanRows table.now booleans value → Truth booleans value sample result }
 {
     let mut truth: u64 = 0;
-    let mut left = booleans;
-    while left != 0 {
-        let n = words::lowest(left);
-        left = words::without_lowest(left);
-        truth = row(table, n, truth, sample);
+    for n in words::Members(booleans) {
+        truth = with_row(HeldRow { table, n }, truth, sample);
     }
     truth
 }

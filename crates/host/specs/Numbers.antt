@@ -1,5 +1,5 @@
 -- THE NUMBER FOR C CAN BE TAKEN APART, as a host does it: by division and remainder it tells the reply that it stands for, and so what document 01 promises of that.
-use Rattle.std.specs.Prelude.{ℕ, ◌+◌, ◌*◌, ◌/◌, ◌%◌, ◌≤◌, ◌<◌, cond, List, ◌≡◌, refl, eqb, length}
+use Rattle.std.specs.Prelude.{ℕ, ◌+◌, ◌*◌, ◌/◌, ◌%◌, ◌≤◌, ◌<◌, cond, List, ◌≡◌, refl, eqb, length, Result, Ok, Err}
 use Rattle.std.proofs.Common.{arith, sym, ◌∙◌, ap, subst}
 use Rattle.psl.specs.Verdicts.{Verdict, broken, settled, pending, Right, is_broken, is_settled, is_pending}
 use Rattle.table.specs.Reply.{Reply, refused, granted, not_both, refused_one}
@@ -7,8 +7,7 @@ use Rattle.table.specs.Trees.{property_of}
 use Rattle.table.specs.Check.{check_of, checked_reply, table_reply}
 use Rattle.table.proofs.Facts.Refusals.{refusal_of_table}
 use Rattle.table.specs.declared.Counts.{Counts}
-use Rattle.table.specs.declared.Checked.{Checked}
-use Rattle.table.specs.declared.Checked.TheVariants.{Accepted, Refused}
+use Rattle.table.specs.declared.Refusal.{Refusal}
 use Rattle.monitor.specs.Demands.{Promised}
 use Rattle.trace.specs.Trace.{cycles_most, samples_of}
 use Rattle.trace.specs.Samples.{length_samples}
@@ -42,9 +41,9 @@ small_place s = omega (arith, s.place_below)
 pub table_small : (t : List ℕ) {number place : ℕ} → table_reply t ≡ refused number place → Small number place
 table_small t {number} {place} = by (check_of t) refl
   where
-    by : (k : Checked) → check_of t ≡ k → checked_reply k ≡ refused number place → Small number place
-    by (Accepted c) e q = absurd (not_both (sym q))
-    by (Refused r) e q =
+    by : (k : Result Counts Refusal) → check_of t ≡ k → checked_reply k ≡ refused number place → Small number place
+    by (Ok c) e q = absurd (not_both (sym q))
+    by (Err r) e q =
         let o = refusal_of_table t r e in
         let h = refused_one q in
         record { number_from = omega (arith, o.number_from, h.0); number_to = omega (arith, o.number_to, h.0); place_below = omega (arith, o.place_below, h.1) }

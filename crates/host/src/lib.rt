@@ -1,4 +1,5 @@
 // For a host in C: numbers and byte slices in, one number out. The exports themselves are those of `host_c`.
+// An answer becomes a number by functions: a `From` of one crate's type for another's may stand in one of these two alone.
 
 #![tactic(auto)]
 
@@ -7,11 +8,11 @@ ghost use Rattle.table.specs.Check.{checked_reply, table_reply};
 ghost use Rattle.monitor.specs.Follows.{verdict_of, answer_reply};
 ghost use Rattle.host.specs.Answers.{refusal_number, check_number, verdict_number, answer_number, JudgedNumber};
 
-use monitor::{Answer, Verdict};
-use table::{Checked, Refusal};
+use monitor::Verdict;
+use table::{Counts, Refusal};
 
-// The parts of an answer's number.
-#[derive(Clone, Copy)]
+// The parts of an answer's number, as hosts in C take it apart.
+#[derive(Clone, Copy, PartialEq, Eq)]
 pub struct Packed {}
 
 impl Packed {
@@ -26,17 +27,17 @@ impl Packed {
 fn refusal_number(refusal: Refusal) -> u64
     ensures { result ≡ refusal_number refusal.number refusal.place }
 {
-    Packed::PLACES * (refusal.number as u64) + (refusal.place as u64)
+    Packed::PLACES * u64::from(refusal.number) + u64::from(refusal.place)
 }
 
 // 0 for an accepted table; else the refusal.
-fn table_answer(checked: Checked) -> u64
+fn table_answer(checked: Result<Counts, Refusal>) -> u64
     ensures { result ≡ check_number (checked_reply checked) }
 {
-    let Checked::Refused(refusal) = checked else {
-        return 0;
-    };
-    refusal_number(refusal)
+    match checked {
+        Ok(_) => 0,
+        Err(refusal) => refusal_number(refusal),
+    }
 }
 
 // The check's answer.
@@ -51,19 +52,19 @@ fn verdict_number(verdict: Verdict) -> u64
     ensures { result ≡ verdict_number (verdict_of verdict) }
 {
     match verdict {
-        Verdict::Broken(cycle) => Packed::LOW + (cycle as u64),
-        Verdict::Settled(cycle) => 2 * Packed::LOW + (cycle as u64),
-        Verdict::Pending(cycles) => 3 * Packed::LOW + (cycles as u64),
+        Verdict::Broken(cycle) => Packed::LOW + u64::from(cycle),
+        Verdict::Settled(cycle) => 2 * Packed::LOW + u64::from(cycle),
+        Verdict::Pending(cycles) => 3 * Packed::LOW + u64::from(cycles),
     }
 }
 
 // Any answer, also one that no function here gives: a made-up refusal of place 65,536 or more shares its number with another.
-pub fn answer_number(answer: Answer) -> u64
+pub fn answer_number(answer: Result<Verdict, Refusal>) -> u64
     ensures { result ≡ answer_number (answer_reply answer) }
 {
     match answer {
-        Answer::Refused(refusal) => refusal_number(refusal),
-        Answer::Given(verdict) => verdict_number(verdict),
+        Err(refusal) => refusal_number(refusal),
+        Ok(verdict) => verdict_number(verdict),
     }
 }
 

@@ -1,10 +1,11 @@
 -- One cycle more of a property that goes on.
 use Prim.Native.Nat.{ℕ, suc, ◌+◌, ◌%◌, ◌<◌}
 use native.Mathlib.Omega.{arith}
-use mathlib.Core.Path.{◌≡◌, refl, sym, ◌∙◌, ap, ap₂, subst}
-use mathlib.Core.Bool.{Bool, true, false, ◌&&◌, ◌||◌}
+use mathlib.Core.Path.{◌≡◌, sym, ◌∙◌, ap, ap₂, subst}
+use mathlib.Core.Bool.{Bool, ◌&&◌, ◌||◌}
 use mathlib.Core.List.{List, [], ◌∷◌, ◌++◌}
 use lib.Dec.{eqb}
+use Rattle.std.proofs.Math.Bool.{and_comm}
 use lib.ListN.{length}
 use Rattle.psl.specs.Booleans.{bit}
 use Rattle.psl.specs.Verdicts.{pending, Right, judged}
@@ -12,23 +13,17 @@ use Rattle.table.specs.Trees.{property_at}
 use Rattle.words.specs.Bits.{bit_none}
 use Rattle.words.specs.Sets.{WithBit}
 use Rattle.engine.specs.Cycled.{Standing, Cycled}
-use Rattle.monitor.specs.declared.Verdict.{Verdict}
+use Rattle.monitor.specs.declared.verdict.Verdict.{Verdict}
 use Rattle.monitor.specs.Follows.{verdict_of, Turns}
 use Rattle.engine.specs.Goes.{Goes, standing, next_right}
 
 -- the root, at the first cycle alone
 first_word : {n m root first : ℕ} → n ≡ m → root < 64 → WithBit 0 root (eqb n 0) first → (k : ℕ) → bit first k ≡ eqb k root && eqb m 0
 first_word {n} {m} {root} {first} e l w k = w.each k
-    ∙ ap₂ (λ (a b : Bool). a || b) (bit_none k) (ap₂ (λ (i j : ℕ). eqb i 0 && eqb k j) e small ∙ swap (eqb m 0) (eqb k root))
+    ∙ ap₂ (λ (a b : Bool). a || b) (bit_none k) (ap₂ (λ (i j : ℕ). eqb i 0 && eqb k j) e small ∙ and_comm (eqb m 0) (eqb k root))
   where
     small : root % 64 ≡ root
     small = omega arith
-
-    swap : (a b : Bool) → a && b ≡ b && a
-    swap true true = refl
-    swap true false = refl
-    swap false true = refl
-    swap false false = refl
 
 module _ {t : List ℕ} {root booleans sides weaks : ℕ} {v : List ℕ} {held live_a live_b : ℕ} {families : List ℕ} (g : Goes t root booleans sides weaks v held live_a live_b families)
     (n first x held' live_a' live_b' : ℕ) (families' : List ℕ) (broke quiet : Bool) (verdict : Verdict) (read : n ≡ length v) (word : WithBit 0 root (eqb n 0) first)

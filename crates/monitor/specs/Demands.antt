@@ -14,8 +14,8 @@ use Rattle.table.specs.Check.{table_reply}
 use Rattle.table.specs.declared.Counts.{Counts}
 use Rattle.table.proofs.Laws.Runs.{clash}
 use Rattle.monitor.specs.declared.Monitor.{Monitor}
-use Rattle.monitor.specs.declared.Verdict.{Verdict}
-use Rattle.monitor.specs.declared.Verdict.TheVariants.{Broken, Settled, Pending}
+use Rattle.monitor.specs.declared.verdict.Verdict.{Verdict}
+use Rattle.monitor.specs.declared.verdict.Verdict.TheVariants.{Broken, Settled, Pending}
 use Rattle.monitor.specs.Opens.{count_limit, Shut, OpenIs, no_table, no_property, opened}
 use Rattle.monitor.specs.Follows.{verdict_of, signals_of, Undeclared, DeclaredStep, StepIs}
 use Rattle.monitor.specs.Unique.{too_far}

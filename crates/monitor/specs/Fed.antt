@@ -19,8 +19,8 @@ use Rattle.table.specs.declared.Counts.{Counts}
 use Rattle.words.specs.Ends.{has_from}
 use Rattle.engine.specs.Goes.{goes_on}
 use Rattle.monitor.specs.declared.Monitor.{Monitor}
-use Rattle.monitor.specs.declared.Verdict.{Verdict}
-use Rattle.monitor.specs.declared.Verdict.TheVariants.{Broken, Settled, Pending}
+use Rattle.monitor.specs.declared.verdict.Verdict.{Verdict}
+use Rattle.monitor.specs.declared.verdict.Verdict.TheVariants.{Broken, Settled, Pending}
 use Rattle.monitor.specs.Opens.{count_limit, GoesOn, OpenIs, opened}
 use Rattle.monitor.specs.Follows.{verdict_of, signals_of, Undeclared, Advances, DeclaredStep, StepIs}
 

@@ -1,18 +1,15 @@
 -- What a step does: 13; then a verdict already given is repeated; then 14; else the new verdict. A refusal and a repeated verdict leave the monitor as it was.
-use Rattle.std.specs.Prelude.{ℕ, ◌≤◌, ◌<◌, ◌≡◌, List, [], ◌∷◌, ◌++◌, length}
+use Rattle.std.specs.Prelude.{ℕ, ◌≤◌, ◌<◌, ◌≡◌, List, [], ◌∷◌, ◌++◌, length, Option, Some, None, Result, Ok, Err}
 use Rattle.psl.specs.Verdicts.{broken, settled, pending, Right}
 use Rattle.psl.specs.Verdicts as Psl
 use Rattle.table.specs.Reply.{Reply, refused, granted}
 use Rattle.table.specs.Trees.{property_at}
-use Rattle.monitor.specs.declared.Verdict.{Verdict}
-use Rattle.monitor.specs.declared.Verdict.TheVariants.{Broken, Settled, Pending}
+use Rattle.table.specs.declared.Refusal.{Refusal}
+use Rattle.monitor.specs.declared.verdict.Verdict.{Verdict}
+use Rattle.monitor.specs.declared.verdict.Verdict.TheVariants.{Broken, Settled, Pending}
 use Rattle.engine.specs.declared.plan.Plan.{Plan}
 use Rattle.monitor.specs.declared.Stand.{Stand}
 use Rattle.monitor.specs.declared.Monitor.{Monitor}
-use Rattle.monitor.specs.declared.Answer.{Answer}
-use Rattle.monitor.specs.declared.Answer.TheVariants.{Refused, Given}
-use Rattle.monitor.specs.declared.Going.{Going}
-use Rattle.monitor.specs.declared.Going.TheVariants.{Over, After}
 use Rattle.little.specs.Bytes.{byte_at}
 use Rattle.words.specs.Sets.{HasFrom}
 use Rattle.engine.specs.CycleRight.{Represented}
@@ -26,14 +23,15 @@ verdict_of (Settled n) = settled n
 verdict_of (Pending n) = pending n
 
 -- Document 01's number and values for each case of an answer.
-abbrev pub answer_reply : Answer → Reply Psl.Verdict
-answer_reply (Refused r) = refused r.number r.place
-answer_reply (Given verdict) = granted (verdict_of verdict)
+abbrev pub answer_reply : Result Verdict Refusal → Reply Psl.Verdict
+answer_reply (Err r) = refused r.number r.place
+answer_reply (Ok verdict) = granted (verdict_of verdict)
 
-abbrev pub going_of : Verdict → Going
-going_of (Broken n) = Over
-going_of (Settled n) = Over
-going_of (Pending n) = After n
+-- The cycles read, of a property that goes on.
+abbrev pub going_of : Verdict → Option ℕ
+going_of (Broken n) = None
+going_of (Settled n) = None
+going_of (Pending n) = Some n
 
 -- The first signal number that is none: S, as the table's header has it.
 abbrev pub signals_of : List ℕ → ℕ

@@ -7,7 +7,7 @@ use Rattle.table.specs.declared.Counts.{Counts}
 use Rattle.engine.specs.declared.plan.Plan.{Plan}
 use Rattle.engine.specs.Goes.{Goes}
 use Rattle.monitor.specs.declared.Monitor.{Monitor}
-use Rattle.monitor.specs.declared.Verdict.TheVariants.{Pending}
+use Rattle.monitor.specs.declared.verdict.Verdict.TheVariants.{Pending}
 
 -- 14: the most cycles that are counted, `Monitor::CYCLES`.
 abbrev pub count_limit : ℕ

@@ -1,21 +1,21 @@
 -- Any two answers that a contract of this crate allows are equal, with the monitors afterwards. Bytes lent by `&` are as they were.
 -- Where a step moves on (`Moves`), its monitor is one that was opened on the table and fed, and a family is a word, below 2 ^ 64: that is the exception.
-use Rattle.std.specs.Prelude.{ℕ, ◌≤◌, ◌<◌, ◌≡◌, refl, List}
+use Rattle.std.specs.Prelude.{ℕ, ◌≤◌, ◌<◌, ◌≡◌, refl, List, Result, Ok, Err}
 use Rattle.std.proofs.Common.{arith, sym, ◌∙◌, ap, subst}
 use Rattle.std.proofs.Math.Decide.{dec_lt}
 use Rattle.psl.specs.Verdicts as Psl
 use Rattle.psl.proofs.Laws.{one_verdict}
+use Rattle.table.proofs.Laws.Runs.{clash}
 use Rattle.table.specs.Reply.{Reply, granted, not_both, granted_one, refused_one}
 use Rattle.table.specs.Check.{table_reply}
 use Rattle.table.specs.declared.Counts.{Counts}
+use Rattle.table.specs.declared.Refusal.{Refusal}
 use Rattle.engine.specs.declared.plan.Plan.{Plan}
 use Rattle.engine.specs.Planned.{Planned}
 use Rattle.engine.specs.Unique.{plan_one, weak_low, Words, held_one, live_a_one, live_b_one, families_one}
 use Rattle.monitor.specs.declared.Monitor.{Monitor}
-use Rattle.monitor.specs.declared.Answer.{Answer}
-use Rattle.monitor.specs.declared.Answer.TheVariants.{Refused, Given}
-use Rattle.monitor.specs.declared.Verdict.{Verdict}
-use Rattle.monitor.specs.declared.Verdict.TheVariants.{Broken, Settled, Pending}
+use Rattle.monitor.specs.declared.verdict.Verdict.{Verdict}
+use Rattle.monitor.specs.declared.verdict.Verdict.TheVariants.{Broken, Settled, Pending}
 use Rattle.monitor.specs.Opens.{count_limit, no_plan, Blank, Shut, Ready, OpenIs, no_table, no_property, opened}
 use Rattle.monitor.specs.Follows.{verdict_of, answer_reply, Undeclared, Advances, DeclaredStep, StepIs}
 use Rattle.monitor.specs.Fed.{undeclared_test, Stood, stood_pending, Fed}
@@ -61,13 +61,13 @@ open_one {t} {property} (opened {m = m} e l b r) (opened {m = m'} f k b' r') =
 
 pub verdict_one : (d d' : Verdict) → verdict_of d ≡ verdict_of d' → d ≡ d'
 verdict_one (Broken n) (Broken m) e = cc
-verdict_one (Broken n) (Settled m) e = let z : ◌≡◌ {A = ℕ} 0 1 = cc in absurd (omega arith)
-verdict_one (Broken n) (Pending m) e = let z : ◌≡◌ {A = ℕ} 0 1 = cc in absurd (omega arith)
-verdict_one (Settled n) (Broken m) e = let z : ◌≡◌ {A = ℕ} 0 1 = cc in absurd (omega arith)
+verdict_one (Broken n) (Settled m) e = clash cc
+verdict_one (Broken n) (Pending m) e = clash cc
+verdict_one (Settled n) (Broken m) e = clash cc
 verdict_one (Settled n) (Settled m) e = cc
-verdict_one (Settled n) (Pending m) e = let z : ◌≡◌ {A = ℕ} 0 1 = cc in absurd (omega arith)
-verdict_one (Pending n) (Broken m) e = let z : ◌≡◌ {A = ℕ} 0 1 = cc in absurd (omega arith)
-verdict_one (Pending n) (Settled m) e = let z : ◌≡◌ {A = ℕ} 0 1 = cc in absurd (omega arith)
+verdict_one (Settled n) (Pending m) e = clash cc
+verdict_one (Pending n) (Broken m) e = clash cc
+verdict_one (Pending n) (Settled m) e = clash cc
 verdict_one (Pending n) (Pending m) e = cc
 
 -- The step gives a new verdict: the sample is declared, nothing was decided, and one cycle more can be counted. Any other step leaves any monitor as it is.
@@ -106,8 +106,8 @@ module _ (t : List ℕ) (counts : Counts) (property : ℕ) (v : List ℕ) (m : M
   ]
 
 -- An answer is told by its reply.
-pub answer_one : (a b : Answer) → answer_reply a ≡ answer_reply b → a ≡ b
-answer_one (Refused r) (Refused q) e = let h = refused_one e in λ i. Refused (record { number = h.0 i; place = h.1 i })
-answer_one (Refused r) (Given d) e = absurd (not_both e)
-answer_one (Given d) (Refused r) e = absurd (not_both (sym e))
-answer_one (Given c) (Given d) e = ap Given (verdict_one c d (granted_one e))
+pub answer_one : (a b : Result Verdict Refusal) → answer_reply a ≡ answer_reply b → a ≡ b
+answer_one (Err r) (Err q) e = let h = refused_one e in λ i. Err (record { number = h.0 i; place = h.1 i })
+answer_one (Err r) (Ok d) e = absurd (not_both e)
+answer_one (Ok d) (Err r) e = absurd (not_both (sym e))
+answer_one (Ok c) (Ok d) e = ap Ok (verdict_one c d (granted_one e))

@@ -2,42 +2,31 @@
 
 #![tactic(auto)]
 
-ghost use Rattle.std.specs.Prelude.{◌≡◌, List, ℕ, ◌<◌, length};
-ghost use Rattle.psl.specs.Verdicts.{pending, Right, judged};
-ghost use Rattle.table.specs.Reply.{refused, granted};
-ghost use Rattle.table.specs.Trees.{property_at};
+ghost use Rattle.std.specs.Prelude.{◌≡◌, ◌<◌};
+ghost use Rattle.table.specs.Reply.{granted};
 ghost use Rattle.table.specs.Check.{checked_reply};
 ghost use Rattle.table.specs.Subset.{Subset};
-ghost use Rattle.table.specs.declared.Counts.{Counts};
-ghost use Rattle.monitor.specs.Opens.{count_limit, no_plan, Blank, Shut, Ready, OpenIs};
-ghost use Rattle.monitor.specs.Follows.{verdict_of, answer_reply, going_of, monitor_of, Turns, Advances, DeclaredIs, StepIs};
-ghost use Rattle.engine.specs.Goes.{Goes};
+ghost use Rattle.monitor.specs.Opens.{count_limit, Blank, Shut, Ready, OpenIs};
+ghost use Rattle.monitor.specs.Follows.{verdict_of, answer_reply, monitor_of, Advances, DeclaredIs, StepIs};
 
 pub mod entry;
+mod verdict;
 
-use engine::Live;
-use engine::cycle::{Expected, Outcome};
+use engine::cycle::Expected;
 use engine::plan::Plan;
 pub use entry::advance;
-use table::{Checked, Counts, Refusal};
-
-// A verdict: broken or settled with its cycle, or pending with the cycles read.
-#[derive(Clone, Copy)]
-pub enum Verdict {
-    Broken(u32),
-    Settled(u32),
-    Pending(u32),
-}
+use table::{Cause, Counts, Refusal};
+pub use verdict::Verdict;
 
 // How a property stands after some cycles, beside its families.
-#[derive(Clone, Copy)]
+#[derive(Clone, Copy, PartialEq, Eq)]
 pub struct Stand {
     pub verdict: Verdict,
     pub expected: Expected,
 }
 
 // The families are those of the property's weak sequences, from the highest row.
-#[derive(Clone, Copy)]
+#[derive(Clone, Copy, PartialEq, Eq)]
 pub struct Monitor {
     pub plan: Plan,
     pub stand: Stand,
@@ -55,70 +44,97 @@ impl Monitor {
     pub fn new(plan: Plan, cycles: u32) -> Monitor
         ensures { Blank plan cycles result }
     {
-        let live = Live { a: 0, b: 0 };
-        let expected = Expected { held: 0, live };
-        let stand = Stand {
-            verdict: Verdict::Pending(cycles),
-            expected,
-        };
         Monitor {
             plan,
-            stand,
+            stand: Stand {
+                verdict: Verdict::Pending(cycles),
+                expected: Expected::default(),
+            },
             families: [0u64; Monitor::FAMILIES],
         }
     }
-}
 
-// The answer of a step: a refusal, or the verdict.
-#[derive(Clone, Copy)]
-pub enum Answer {
-    Refused(Refusal),
-    Given(Verdict),
-}
+    // One cycle after n that left the property pending.
+    fn turn(&mut self, table: &[u8], n: u32, sample: u32) -> Verdict
+        requires { n < count_limit }
+        ensures { Advances table.now self.old n sample (granted (verdict_of result)) self.new }
+    {
+        let first = words::with_bit(0, self.plan.root, n == 0);
+        let o = engine::cycle::cycle(
+            table,
+            self.plan,
+            self.stand.expected,
+            first,
+            sample,
+            &mut self.families,
+        );
+        let verdict = Verdict::at(o.broken, o.quiet, n + 1);
+        self.stand = Stand {
+            verdict,
+            expected: o.expected,
+        };
+        verdict
+    }
 
-#[derive(Clone, Copy)]
-pub struct Stepped {
-    pub answer: Answer,
-    pub monitor: Monitor,
-}
+    // One declared sample: a verdict already given, or refusal 14, or the new verdict.
+    fn take_declared(&mut self, table: &[u8], sample: u32) -> Result<Verdict, Refusal>
+        ensures { DeclaredIs table.now self.old sample (answer_reply result) self.new }
+    {
+        let verdict = self.stand.verdict;
+        let Some(n) = verdict.pending() else {
+            return Ok(verdict);
+        };
+        if n == Monitor::CYCLES {
+            return Err(Cause::CyclesTooMany.at(0));
+        }
+        Ok(self.turn(table, n, sample))
+    }
 
-// The answer of opening is that of the check, with one refusal more; the monitor stands beside it.
-#[derive(Clone, Copy)]
-pub struct Opened {
-    pub answer: Checked,
-    pub monitor: Monitor,
-}
-
-// The plan of no property.
-fn no_plan() -> Plan
-    ensures { result ≡ no_plan }
-{
-    Plan {
-        booleans: 0,
-        sides: 0,
-        weaks: 0,
-        root: 0,
+    // One sample, in place: refusal 13, or what a declared sample gives.
+    pub fn take(&mut self, table: &[u8], sample: u32) -> Result<Verdict, Refusal>
+        ensures { StepIs table.now self.old sample (answer_reply result) self.new }
+    {
+        if words::has_from(u64::from(sample), little::byte_at(table, 2)) {
+            return Err(Cause::SignalUndeclared.at(0));
+        }
+        self.take_declared(table, sample)
     }
 }
 
-// A refused opening: its monitor stands at the count limit, so that no step of it gives a verdict.
-fn not_opened(answer: Checked) -> Opened
+// What is answered, and the monitor beside it: a refusal leaves one too.
+#[derive(Clone, Copy, PartialEq, Eq)]
+pub struct Answered<A> {
+    pub answer: Result<A, Refusal>,
+    pub monitor: Monitor,
+}
+
+// A sample is answered by a verdict.
+pub type Stepped = Answered<Verdict>;
+
+// Opening is answered as the check is, with one refusal more.
+pub type Opened = Answered<Counts>;
+
+// A refused opening: its monitor has the plan of no property, and stands at the count limit, so that no step of it gives a verdict.
+fn not_opened(answer: Result<Counts, Refusal>) -> Opened
     ensures { (result.answer ≡ answer) × Shut result.monitor }
 {
     Opened {
         answer,
-        monitor: Monitor::new(no_plan(), Monitor::CYCLES),
+        monitor: Monitor::new(Plan::default(), Monitor::CYCLES),
     }
 }
 
 // A property of an accepted table.
 fn opening(table: &[u8], counts: Counts, property: u8) -> Opened
-    ensures answer_value { (checked_reply result.answer ≡ granted counts) × Blank result.monitor.plan 0 result.monitor }
-    ensures ready { Subset table.now counts → property < counts.properties → Ready table.now counts property result.monitor }
+    requires { Subset table.now counts × (property < counts.properties) }
+    ensures answer_value { result.answer ≡ Ok counts }
+    ensures nothing_read { Blank result.monitor.plan 0 result.monitor }
+    ensures ready { Ready table.now counts property result.monitor }
 {
-    let root = (table::roots::root_at(table, counts.nodes, property) % 256) as u8;
+    // a cast and no `try_from`, whose error never comes: a root of an accepted table is below 64
+    let root = table::roots::root_at(table, counts.nodes, property) as u8;
     Opened {
-        answer: Checked::Accepted(counts),
+        answer: Ok(counts),
         monitor: Monitor::new(engine::plan::planned(table, root), 0),
     }
 }
@@ -128,133 +144,24 @@ pub fn open(table: &[u8], property: u32) -> Opened
     ensures { OpenIs table.now property (checked_reply result.answer) result.monitor }
 {
     let checked = table::check(table);
-    let Checked::Accepted(counts) = checked else {
+    let Ok(counts) = checked else {
         return not_opened(checked);
     };
-    if (counts.properties as u32) <= property {
-        return not_opened(Checked::Refused(Refusal {
-            number: 12,
-            place: 0,
-        }));
+    if u32::from(counts.properties) <= property {
+        return not_opened(Err(Cause::PropertyUnknown.at(0)));
     }
-    opening(table, counts, (property % 256) as u8)
+    // below the count of properties, which is a byte
+    opening(table, counts, property as u8)
 }
 
-// The verdict at cycle n.
-fn verdict_at(broken: bool, quiet: bool, n: u32) -> Verdict
-    ensures { verdict_of result ≡ judged broken quiet n }
-{
-    if broken {
-        return Verdict::Broken(n);
-    }
-    if quiet {
-        return Verdict::Settled(n);
-    }
-    Verdict::Pending(n)
-}
-
-// One cycle after n that left the property pending.
-fn turn(
-    table: &[u8],
-    plan: Plan,
-    expected: Expected,
-    n: u32,
-    sample: u32,
-    families: &mut [u64; Monitor::FAMILIES],
-) -> Stand
-    requires { n < count_limit }
-    ensures { (v : List ℕ) → n ≡ length v → Right (property_at table.now plan.root) v (pending (length v))
-        → (g : Goes table.now plan.root plan.booleans plan.sides plan.weaks v expected.held expected.live.a expected.live.b families.old)
-        → Turns g sample result.verdict result.expected.held result.expected.live.a result.expected.live.b families.new }
-{
-    let first = words::with_bit(0, plan.root, n == 0);
-    let o = engine::cycle::cycle(table, plan, expected, first, sample, &mut *families);
-    let expected_after = o.expected;
-    Stand {
-        verdict: verdict_at(o.broken, o.quiet, n + 1),
-        expected: expected_after,
-    }
-}
-
-// The answer to a sample, and how the property stands then.
-#[derive(Clone, Copy)]
+// The answer to a sample of a monitor in parts: its families are lent, so how it stands is all that is handed back, after a refusal too.
+#[derive(Clone, Copy, PartialEq, Eq)]
 pub struct Told {
-    pub answer: Answer,
+    pub answer: Result<Verdict, Refusal>,
     pub stand: Stand,
 }
 
-fn advanced(
-    table: &[u8],
-    plan: Plan,
-    stand: Stand,
-    n: u32,
-    sample: u32,
-    families: &mut [u64; Monitor::FAMILIES],
-) -> Told
-    requires { n < count_limit }
-    ensures { Advances table.now (monitor_of plan stand families.old) n sample (answer_reply result.answer) (monitor_of plan result.stand families.new) }
-{
-    let expected = stand.expected;
-    let after = turn(table, plan, expected, n, sample, &mut *families);
-    let verdict = after.verdict;
-    Told {
-        answer: Answer::Given(verdict),
-        stand: after,
-    }
-}
-
-// Whether a property goes on, and after how many cycles.
-#[derive(Clone, Copy)]
-enum Going {
-    Over,
-    After(u32),
-}
-
-fn goes_on(verdict: Verdict) -> Going
-    ensures { result ≡ going_of verdict }
-{
-    match verdict {
-        Verdict::Broken(_) => Going::Over,
-        Verdict::Settled(_) => Going::Over,
-        Verdict::Pending(cycles) => Going::After(cycles),
-    }
-}
-
-// A refusal at place 0.
-fn refused(number: u8) -> Answer
-    ensures { answer_reply result ≡ refused number 0 }
-{
-    Answer::Refused(Refusal { number, place: 0 })
-}
-
-// One declared sample: a verdict already given, or refusal 14, or the new verdict.
-fn declared_step(
-    table: &[u8],
-    plan: Plan,
-    stand: Stand,
-    sample: u32,
-    families: &mut [u64; Monitor::FAMILIES],
-) -> Told
-    ensures { DeclaredIs table.now (monitor_of plan stand families.old) sample (answer_reply result.answer) (monitor_of plan result.stand families.new) }
-{
-    let verdict = stand.verdict;
-    let goes = goes_on(verdict);
-    let Going::After(n) = goes else {
-        return Told {
-            answer: Answer::Given(verdict),
-            stand,
-        };
-    };
-    if n == Monitor::CYCLES {
-        return Told {
-            answer: refused(14),
-            stand,
-        };
-    }
-    advanced(table, plan, stand, n, sample, &mut *families)
-}
-
-// One sample, the families lent: refusal 13, or what a declared sample gives.
+// One sample, the monitor in parts and its families lent.
 pub fn step_lent(
     table: &[u8],
     plan: Plan,
@@ -264,30 +171,23 @@ pub fn step_lent(
 ) -> Told
     ensures { StepIs table.now (monitor_of plan stand families.old) sample (answer_reply result.answer) (monitor_of plan result.stand families.new) }
 {
-    if words::has_from(sample as u64, little::byte_at(table, 2)) {
-        return Told {
-            answer: refused(13),
-            stand,
-        };
+    let mut monitor = Monitor {
+        plan,
+        stand,
+        families: *families,
+    };
+    let answer = monitor.take(table, sample);
+    *families = monitor.families;
+    Told {
+        answer,
+        stand: monitor.stand,
     }
-    declared_step(table, plan, stand, sample, &mut *families)
 }
 
 // One sample, the monitor by value.
-pub fn step(table: &[u8], monitor: Monitor, sample: u32) -> Stepped
+pub fn step(table: &[u8], mut monitor: Monitor, sample: u32) -> Stepped
     ensures { StepIs table.now monitor sample (answer_reply result.answer) result.monitor }
 {
-    let plan = monitor.plan;
-    let mut families = monitor.families;
-    let told = step_lent(table, plan, monitor.stand, sample, &mut families);
-    let answer = told.answer;
-    let stand = told.stand;
-    Stepped {
-        answer,
-        monitor: Monitor {
-            plan,
-            stand,
-            families,
-        },
-    }
+    let answer = monitor.take(table, sample);
+    Stepped { answer, monitor }
 }

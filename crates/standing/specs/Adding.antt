@@ -1,5 +1,5 @@
 -- ADDING ONE ANSWER AFTER THE OTHER comes to how all properties stand: why `judged` is right. Nothing here has to be believed.
-use Rattle.std.specs.Prelude.{ℕ, ◌+◌, ◌≤◌, ◌<◌, List, ◌≡◌}
+use Rattle.std.specs.Prelude.{ℕ, ◌+◌, ◌≤◌, ◌<◌, List, ◌≡◌, Result, Ok, Err}
 use Rattle.std.proofs.Common.{arith, sym, ◌∙◌, ap, subst}
 use Rattle.std.proofs.Math.Decide.{dec_lt}
 use Rattle.psl.specs.Verdicts as Psl
@@ -12,10 +12,8 @@ use Rattle.table.proofs.Laws.Runs.{clash}
 use Rattle.table.specs.declared.Counts.{Counts}
 use Rattle.table.specs.declared.Refusal.{Refusal}
 use Rattle.monitor.specs.Follows.{answer_reply}
-use Rattle.monitor.specs.declared.Verdict.{Verdict}
-use Rattle.monitor.specs.declared.Verdict.TheVariants as Said
-use Rattle.monitor.specs.declared.Answer.{Answer}
-use Rattle.monitor.specs.declared.Answer.TheVariants as Told
+use Rattle.monitor.specs.declared.verdict.Verdict.{Verdict}
+use Rattle.monitor.specs.declared.verdict.Verdict.TheVariants as Said
 use Rattle.trace.specs.Judging.{Judged, given}
 use Rattle.trace.specs.Unique.{judged_one}
 use Rattle.standing.specs.Standing.{Stands, is_refused, is_settled, is_broken, is_pending, numbered_first, refused_each, below}
@@ -35,14 +33,19 @@ with_pending Broken = Broken
 with_pending Pending = Pending
 with_pending (Refused r) = Refused r
 
+abbrev pub stands_as : Verdict → Standing
+stands_as (Said.Broken n) = Broken
+stands_as (Said.Settled n) = Settled
+stands_as (Said.Pending n) = Pending
+
 abbrev pub with_verdict : Standing → Verdict → Standing
 with_verdict s (Said.Broken n) = with_broken s
 with_verdict s (Said.Settled n) = s
 with_verdict s (Said.Pending n) = with_pending s
 
-abbrev pub with_answer : Standing → Answer → Standing
-with_answer s (Told.Refused r) = Refused r
-with_answer s (Told.Given verdict) = with_verdict s verdict
+abbrev pub with_answer : Standing → Result Verdict Refusal → Standing
+with_answer s (Err r) = Refused r
+with_answer s (Ok verdict) = with_verdict s verdict
 
 -- How the properties below k stand.
 pub data StandsBelow (t file : List ℕ) (k : ℕ) : Standing → Type 0 where
@@ -104,11 +107,11 @@ module _ (t file : List ℕ) (k : ℕ) where
   pending_more (below_broken l j) h = below_broken (more l) j
   pending_more (below_pending l j none) h = below_pending (more l) j (none_broken none (pending_not h))
 
-  pub answer_more : (s : Standing) (a : Answer) → StandsBelow t file k s → Judged t file k (answer_reply a) → StandsBelow t file (k + 1) (with_answer s a)
-  answer_more s (Told.Refused r) b j = below_refused new j
-  answer_more s (Told.Given (Said.Broken n)) b j = broken_more b j
-  answer_more s (Told.Given (Said.Settled n)) b j = settled_more b j
-  answer_more s (Told.Given (Said.Pending n)) b j = pending_more b j
+  pub answer_more : (s : Standing) (a : Result Verdict Refusal) → StandsBelow t file k s → Judged t file k (answer_reply a) → StandsBelow t file (k + 1) (with_answer s a)
+  answer_more s (Err r) b j = below_refused new j
+  answer_more s (Ok (Said.Broken n)) b j = broken_more b j
+  answer_more s (Ok (Said.Settled n)) b j = settled_more b j
+  answer_more s (Ok (Said.Pending n)) b j = pending_more b j
 
 -- ---- All of them
 
@@ -128,13 +131,13 @@ table_stands t file s (given {counts = c} e l f r) b =
 
 -- ---- What the first answer tells
 
-pub first_refused : (t file : List ℕ) (a : Answer) (s : Standing) {r : Refusal} → a ≡ Told.Refused r → Judged t file 0 (answer_reply a)
+pub first_refused : (t file : List ℕ) (a : Result Verdict Refusal) (s : Standing) {r : Refusal} → a ≡ Err r → Judged t file 0 (answer_reply a)
     → s ≡ with_answer Settled a → Stands t file s
 first_refused t file a s e j w =
-    subst (Stands t file) (sym (w ∙ ap (with_answer Settled) e)) (is_refused (subst (λ (x : Answer). Judged t file 0 (answer_reply x)) e j))
+    subst (Stands t file) (sym (w ∙ ap (with_answer Settled) e)) (is_refused (subst (λ (x : Result Verdict Refusal). Judged t file 0 (answer_reply x)) e j))
 
-pub first_given : (t file : List ℕ) (a : Answer) (s z : Standing) {v : Verdict} → a ≡ Told.Given v → Judged t file 0 (answer_reply a)
+pub first_given : (t file : List ℕ) (a : Result Verdict Refusal) (s z : Standing) {v : Verdict} → a ≡ Ok v → Judged t file 0 (answer_reply a)
     → s ≡ with_answer Settled a → (1 ≤ u16_at t 6 → StandsBelow t file 1 s → StandsBelow t file (u16_at t 6) z) → Stands t file z
 first_given t file a s z {v} e j w more =
-    table_stands t file z (subst (λ (x : Answer). Judged t file 0 (answer_reply x)) e j)
+    table_stands t file z (subst (λ (x : Result Verdict Refusal). Judged t file 0 (answer_reply x)) e j)
     (λ l. more l (subst (StandsBelow t file 1) (sym w) (answer_more t file 0 Settled a below_none j)))

@@ -4,17 +4,31 @@
 
 ghost use Rattle.std.specs.Prelude.{◌≡◌};
 ghost use Rattle.standing.specs.Standing.{status_of};
-ghost use Rattle.standing.specs.Adding.{with_broken, with_pending, with_verdict, with_answer};
+ghost use Rattle.standing.specs.Adding.{stands_as, with_answer};
 
-use monitor::{Answer, Verdict};
+use monitor::Verdict;
 use table::Refusal;
 
-#[derive(Clone, Copy)]
+// The greater is told before the smaller.
+#[derive(Clone, Copy, PartialEq, Eq, PartialOrd, Ord)]
 pub enum Standing {
     Settled,
-    Broken,
     Pending,
+    Broken,
     Refused(Refusal),
+}
+
+// How a property stands alone.
+impl From<Verdict> for Standing {
+    ghost from_gives = { λ verdict standing. standing ≡ stands_as verdict };
+
+    fn from(verdict: Verdict) -> Standing {
+        match verdict {
+            Verdict::Broken(_) => Standing::Broken,
+            Verdict::Settled(_) => Standing::Settled,
+            Verdict::Pending(_) => Standing::Pending,
+        }
+    }
 }
 
 // The exit status of a command that judged: 0 only if every property is settled.
@@ -29,44 +43,12 @@ pub fn status(standing: Standing) -> u32
     }
 }
 
-fn with_broken(standing: Standing) -> Standing
-    ensures { result ≡ with_broken standing }
-{
-    match standing {
-        Standing::Settled => Standing::Broken,
-        Standing::Broken => Standing::Broken,
-        Standing::Pending => Standing::Broken,
-        Standing::Refused(refusal) => Standing::Refused(refusal),
-    }
-}
-
-fn with_pending(standing: Standing) -> Standing
-    ensures { result ≡ with_pending standing }
-{
-    match standing {
-        Standing::Settled => Standing::Pending,
-        Standing::Broken => Standing::Broken,
-        Standing::Pending => Standing::Pending,
-        Standing::Refused(refusal) => Standing::Refused(refusal),
-    }
-}
-
-fn with_verdict(standing: Standing, verdict: Verdict) -> Standing
-    ensures { result ≡ with_verdict standing verdict }
-{
-    match verdict {
-        Verdict::Broken(_) => with_broken(standing),
-        Verdict::Settled(_) => standing,
-        Verdict::Pending(_) => with_pending(standing),
-    }
-}
-
 // The standing of some properties and one more.
-pub fn with_answer(standing: Standing, answer: Answer) -> Standing
+pub fn with_answer(standing: Standing, answer: Result<Verdict, Refusal>) -> Standing
     ensures { result ≡ with_answer standing answer }
 {
     match answer {
-        Answer::Refused(refusal) => Standing::Refused(refusal),
-        Answer::Given(verdict) => with_verdict(standing, verdict),
+        Err(refusal) => Standing::Refused(refusal),
+        Ok(verdict) => standing.max(Standing::from(verdict)),
     }
 }

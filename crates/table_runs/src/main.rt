@@ -2,39 +2,80 @@
 
 #![tactic(auto)]
 
-use std::io;
-use table::Checked;
+use std::ops::Add;
+use std::{fmt, io};
+use table::{Counts, Refusal};
+use tables::Base;
 
 mod cases;
 mod tables;
 
 // Cases, and how many went wrong.
-#[derive(Clone, Copy)]
-pub struct Tally {
+#[derive(Clone, Copy, Default)]
+pub(crate) struct Tally {
     cases: u16,
     wrong: u16,
 }
 
-impl Tally {
-    const MOST: u16 = 1000;
+impl Add for Tally {
+    type Output = Tally;
 
-    pub(crate) fn new() -> Tally {
-        Tally { cases: 0, wrong: 0 }
-    }
-
-    fn and(self, other: Tally) -> Tally {
+    fn add(self, other: Tally) -> Tally {
         Tally {
-            cases: self.cases % Self::MOST + other.cases % Self::MOST,
-            wrong: self.wrong % Self::MOST + other.wrong % Self::MOST,
+            cases: self.cases.saturating_add(other.cases),
+            wrong: self.wrong.saturating_add(other.wrong),
+        }
+    }
+}
+
+impl fmt::Display for Tally {
+    fn fmt<W: fmt::Write>(&self, f: &mut fmt::Formatter<W>) -> fmt::Result {
+        write!(f, "{} cases, {} wrong", self.cases, self.wrong)
+    }
+}
+
+impl Tally {
+    // One case more: the first bytes of a table that is changed are answered with this refusal, or with none.
+    fn case(&mut self, length: usize, base: Base, refusal: Option<Refusal>, changes: &[u8]) {
+        let mut room = [0u8; 4096];
+        base.put(&mut room);
+        put_changes(&mut room, changes);
+        let right = room
+            .get(..length)
+            .is_some_and(|table| is_right(table, refusal));
+        self.cases = self.cases.saturating_add(1);
+        self.wrong = self.wrong.saturating_add(u16::from(!right));
+    }
+
+    // As many bytes of the changed table are refused so. The numbers are those of document 01, and not taken from the crate.
+    pub(crate) fn refuses_first(
+        &mut self,
+        length: usize,
+        base: Base,
+        number: u8,
+        place: u32,
+        changes: &[u8],
+    ) {
+        self.case(length, base, Some(Refusal { number, place }), changes);
+    }
+
+    pub(crate) fn refuses(&mut self, base: Base, number: u8, place: u32, changes: &[u8]) {
+        self.refuses_first(base.length(), base, number, place, changes);
+    }
+
+    // Each change by itself has the document's table refused so.
+    pub(crate) fn each(&mut self, number: u8, place: u32, changes: &[u8]) {
+        for change in changes.chunks_exact(2) {
+            self.refuses(Base::Document, number, place, change);
         }
     }
 
-    fn case(self, right: bool) -> Tally {
-        if right {
-            self.and(Tally { cases: 1, wrong: 0 })
-        } else {
-            self.and(Tally { cases: 1, wrong: 1 })
-        }
+    pub(crate) fn accepts_first(&mut self, length: usize, base: Base, changes: &[u8]) {
+        self.case(length, base, None, changes);
+    }
+
+    pub(crate) fn accepts(&mut self, base: Base, changes: &[u8]) {
+        self.accepts_first(base.length(), base, changes);
     }
 }
 
@@ -48,89 +89,34 @@ fn put_changes(table: &mut [u8], changes: &[u8]) {
 }
 
 // The counts are those of the header.
-fn counts_right(table: &[u8], counts: table::Counts) -> bool {
-    if table.len() < 7 {
-        return false;
-    }
-    counts.signals == table[2] && counts.nodes == table[4] && counts.properties == table[6]
-}
-
-fn is_right(table: &[u8], number: u8, place: u32) -> bool {
-    let checked = table::check(table);
-    match checked {
-        Checked::Accepted(counts) => number == 0 && counts_right(table, counts),
-        Checked::Refused(r) => r.number == number && r.place == place,
-    }
-}
-
-fn is_right_up_to(table: &[u8], length: usize, number: u8, place: u32) -> bool {
-    if length <= table.len() {
-        is_right(&table[..length], number, place)
+fn counts_right(table: &[u8], counts: Counts) -> bool {
+    if let [_, _, signals, _, nodes, _, properties, ..] = table {
+        counts.signals == *signals && counts.nodes == *nodes && counts.properties == *properties
     } else {
         false
     }
 }
 
-// The first bytes of a table that is changed are refused so, or accepted where the number is 0.
-pub(crate) fn cut(
-    t: Tally,
-    base: u16,
-    length: usize,
-    number: u8,
-    place: u32,
-    changes: &[u8],
-) -> Tally {
-    let mut room = [0u8; 4096];
-    let table: &mut [u8] = &mut room;
-    tables::put_base(&mut *table, base);
-    put_changes(&mut *table, changes);
-    t.case(is_right_up_to(&*table, length, number, place))
-}
-
-pub(crate) fn refuses(t: Tally, base: u16, number: u8, place: u32, changes: &[u8]) -> Tally {
-    cut(t, base, tables::length(base), number, place, changes)
-}
-
-pub(crate) fn accepts(t: Tally, base: u16, changes: &[u8]) -> Tally {
-    refuses(t, base, 0, 0, changes)
-}
-
-// Each change by itself has the document's table refused so.
-pub(crate) fn each(t: Tally, number: u8, place: u32, changes: &[u8]) -> Tally {
-    let mut t = t;
-    for change in changes.chunks_exact(2) {
-        t = refuses(t, tables::DOCUMENT, number, place, change);
+fn is_right(table: &[u8], refusal: Option<Refusal>) -> bool {
+    match table::check(table) {
+        Ok(counts) => refusal.is_none() && counts_right(table, counts),
+        Err(given) => refusal == Some(given),
     }
-    t
 }
 
-fn tell(rt: &impl Print, name: &str, t: Tally) -> io::Result<Tally> {
-    let Tally { cases, wrong } = t;
-    println!(rt; "{name}: {cases} cases, {wrong} wrong")?;
-    Ok(t)
-}
-
-fn header(rt: &impl Print) -> io::Result<Tally> {
-    let first = cases::lengths().and(cases::headers());
-    tell(rt, "header, 1 to 4", first.and(cases::limits()))
-}
-
-fn rows(rt: &impl Print) -> io::Result<Tally> {
-    let first = cases::kinds().and(cases::fields());
-    tell(rt, "rows, 5 to 8", first.and(cases::classes()))
-}
-
-fn uses(rt: &impl Print) -> io::Result<Tally> {
-    tell(rt, "uses, 10", cases::uses().and(cases::sequence_uses()))
-}
-
-fn cells(rt: &impl Print) -> io::Result<Tally> {
-    tell(rt, "cells, 11", cases::cells().and(cases::many_cells()))
+fn tell(rt: &impl Print, name: &str, tally: Tally) -> io::Result<Tally> {
+    println!(rt; "{name}: {tally}")?;
+    Ok(tally)
 }
 
 fn main(rt: HostRuntime) -> io::Result<()> {
-    let first = header(&rt)?.and(rows(&rt)?);
-    let second = tell(&rt, "roots, 9", cases::roots())?.and(uses(&rt)?);
-    tell(&rt, "table", first.and(second).and(cells(&rt)?))?;
+    let header = cases::lengths() + cases::headers() + cases::limits();
+    let header = tell(&rt, "header, 1 to 4", header)?;
+    let rows = cases::kinds() + cases::fields() + cases::classes();
+    let rows = tell(&rt, "rows, 5 to 8", rows)?;
+    let roots = tell(&rt, "roots, 9", cases::roots())?;
+    let uses = tell(&rt, "uses, 10", cases::uses() + cases::sequence_uses())?;
+    let cells = tell(&rt, "cells, 11", cases::cells() + cases::many_cells())?;
+    tell(&rt, "table", header + rows + roots + uses + cells)?;
     Ok(())
 }

@@ -1,97 +1,126 @@
--- A reading and the step that follows it; and the answer once the trace is checked.
-use Prim.Native.Nat.{ℕ, ◌+◌, ◌≤◌, ◌<◌}
+-- The samples of a trace, fed one after the other; and the answer once the trace is checked.
+use Prim.Native.Nat.{ℕ, ◌+◌, ◌-◌, ◌≤◌, ◌<◌}
 use native.Mathlib.Omega.{arith}
 use mathlib.Core.List.{List}
 use mathlib.Core.Path.{◌≡◌, refl, sym, ◌∙◌, ap, subst}
+use Rattle.std.specs.Prelude.{Some, None, Result, Ok, Err, ⊤}
+use Rattle.std.specs.Borrow.{Bor}
+use Rattle.std.specs.Iterator.{at_most, MakesProgress}
+use Rattle.std.proofs.Math.Decide.{dec_lt}
 use Rattle.psl.specs.Verdicts as Psl
+use Rattle.table.proofs.Laws.Runs.{clash}
 use Rattle.table.specs.Reply.{Reply, refused, granted, not_both, refused_one}
 use Rattle.table.specs.Check.{checked_reply}
 use Rattle.table.specs.declared.Counts.{Counts}
 use Rattle.table.specs.declared.Refusal.{Refusal}
-use Rattle.table.specs.declared.Checked.{Checked}
-use Rattle.table.specs.declared.Checked.TheVariants as Table
-use Rattle.monitor.specs.declared.Verdict.{Verdict}
+use Rattle.monitor.specs.declared.verdict.Verdict.{Verdict}
 use Rattle.monitor.specs.declared.Monitor.{Monitor}
 use Rattle.monitor.specs.Opens.{OpenIs, no_table, no_property, opened}
-use Rattle.monitor.specs.Follows.{verdict_of, signals_of, StepIs}
-use Rattle.monitor.specs.Demands.{its_signals}
+use Rattle.monitor.specs.Follows.{verdict_of, StepIs}
 use Rattle.trace.specs.Trace.{cycles_of, sample_at}
-use Rattle.trace.specs.Reader.{reading_at}
+use Rattle.trace.specs.Reader.{reading_at, gives, moved}
 use Rattle.trace.specs.Readings.{reading_more, reading_none}
 use Rattle.trace.specs.Refusals.{trace_reply, file_reply}
 use Rattle.trace.specs.Meaning.{accepted_gives}
 use Rattle.trace.specs.Judging.{Judged, no_trace, given}
 use Rattle.trace.specs.Judging as J
-use Rattle.trace.specs.Feeding.{FedFrom, fed_more, Stepping, Last, last_right}
-use Rattle.trace.specs.declared.reader.Next.TheVariants.{Sample, End}
+use Rattle.trace.specs.Feeding.{FedFrom, fed_none, fed_more, Last, last_right}
 use Rattle.trace.specs.declared.reader.Reading.{Reading}
-use Rattle.trace.specs.declared.refusals.TraceChecked.{TraceChecked}
-use Rattle.trace.specs.declared.refusals.TraceChecked.TheVariants as Trace
+use Rattle.trace.specs.declared.reader.TraceReader.{TraceReader}
 
-module _ (t file : List ℕ) (n : ℕ) (m : Monitor) where
-  here : n < cycles_of file → (reading_at file n).next ≡ Sample (sample_at file n)
-  here l = ap (λ (r : Reading). r.next) (sym (reading_more file n (sample_at file n) l refl))
+-- a reader has a sample less to give, until it is at the end
+pub progress : (reader : TraceReader) → MakesProgress (λ _. ⊤) (λ (r : TraceReader). at_most (cycles_of r.bytes.now - r.at)) reader (gives reader) (moved reader)
+progress reader = elim (dec_lt reader.at (cycles_of reader.bytes.now)) [
+  | yes l ↦ subst After (reading_more reader.bytes.now reader.at _ l refl) (record { on = λ _. (tt, tt, omega arith); keeps = tt; rests = λ _. tt })
+  | no l ↦ subst After (reading_none reader.bytes.now reader.at (omega arith)) (record { on = λ _. tt; keeps = tt; rests = λ _. tt })
+]
+  where
+    After : Reading → Type 0
+    After r = MakesProgress (λ _. ⊤) (λ (s : TraceReader). at_most (cycles_of s.bytes.now - s.at)) reader r.next (record { bytes = reader.bytes; at = r.at })
 
-  past : cycles_of file ≤ n → (reading_at file n).next ≡ End
-  past l = ap (λ (r : Reading). r.next) (sym (reading_none file n l))
+-- what was given is the sample at the place, and the place is the next one then; at the end there is none
+module _ (bytes : List ℕ) (at : ℕ) where
+  here : at < cycles_of bytes → reading_at bytes at ≡ record { next = Some (sample_at bytes at); at = at + 1 }
+  here l = sym (reading_more bytes at _ l refl)
 
-  pub no_more : (reading_at file n).next ≡ End → Stepping t file n m m
-  no_more e = record {
-    steps = λ l. (let h = here l in let z : ◌≡◌ {A = ℕ} 0 1 = cc in absurd (omega arith));
-    stays = λ l. refl;
-  }
+  past : cycles_of bytes ≤ at → reading_at bytes at ≡ record { next = None; at = at }
+  past l = sym (reading_none bytes at l)
 
-  pub one_more : {x : ℕ} {reply : Reply Psl.Verdict} {after : Monitor} → (reading_at file n).next ≡ Sample x → StepIs t m x reply after → Stepping t file n m after
-  one_more {x} {reply} {after} e s = record {
-    steps = λ l. (reply, (let h = here l in let z : x ≡ sample_at file n = cc in subst (λ (y : ℕ). StepIs t m y reply after) z s));
-    stays = λ l. (let h = past l in let z : ◌≡◌ {A = ℕ} 0 1 = cc in absurd (omega arith));
-  }
+  sample_read : {x : ℕ} → (reading_at bytes at).next ≡ Some x → (at < cycles_of bytes) × (x ≡ sample_at bytes at) × ((reading_at bytes at).at ≡ at + 1)
+  sample_read {x} e = elim (dec_lt at (cycles_of bytes)) [
+    | yes l ↦ (l, (let h = ap (λ (r : Reading). r.next) (here l) in cc), ap (λ (r : Reading). r.at) (here l))
+    | no l ↦ (let h = ap (λ (r : Reading). r.next) (past (omega arith)) in clash cc)
+  ]
 
--- one of the samples more
-pub feed : {t file : List ℕ} {cycles n : ℕ} {m before after : Monitor} → cycles ≤ cycles_of file → n < cycles → FedFrom t file m n before → Stepping t file n before after
-    → FedFrom t file m (n + 1) after
-feed few l f s = let h = s.steps (omega arith) in fed_more f h.1
+  end_read : (reading_at bytes at).next ≡ None → cycles_of bytes ≤ at
+  end_read e = elim (dec_lt at (cycles_of bytes)) [
+    | yes l ↦ (let h = ap (λ (r : Reading). r.next) (here l) in clash cc)
+    | no l ↦ omega arith
+  ]
 
-pub all_fed : {t file : List ℕ} {m : Monitor} {n cycles : ℕ} (after : Monitor) → n ≤ cycles → cycles ≤ n → FedFrom t file m n after → Last t file m cycles after.stand.verdict
-all_fed {t} {file} {m} {n} {cycles} after below above f = record {
-  after = after;
-  fed = (let e : n ≡ cycles = omega arith in subst (λ (k : ℕ). FedFrom t file m k after) e f);
-  stands = refl;
-}
+-- THE LOOP OF JUDGING: the reader's place is how many samples were fed
+pub record Fed (t file : List ℕ) (m : Monitor) (reader : TraceReader) (after : Monitor) : Type 0 where
+  pub bytes : reader.bytes.now ≡ file
+  pub within : reader.at ≤ cycles_of file
+  pub fed : FedFrom t file m reader.at after
 
--- the answer of a property that was opened, by what the check of the trace said
-module _ (t file : List ℕ) (counts : Counts) (property : ℕ) (m : Monitor) (o : OpenIs t property (granted counts) m) {S : ℕ} (s : S ≡ signals_of t)
-    (checked : TraceChecked) (told : trace_reply checked ≡ file_reply S file) where
-  says : {r : Reply ℕ} → trace_reply checked ≡ r → file_reply counts.signals file ≡ r
-  says e = ap (λ (k : ℕ). file_reply k file) (sym (s ∙ its_signals t counts property m o)) ∙ sym told ∙ e
+module _ {t file : List ℕ} {m : Monitor} where
+  pub none_fed : {file' : Bor (List ℕ)} {new reader : TraceReader} → new.bytes ≡ file' → new.at ≡ 0 → reader ≡ new → file ≡ file'.now
+      → Fed t file m reader m
+  none_fed {file'} {new} {reader} b z e q = rw e (record {
+    bytes = ap (λ (x : Bor (List ℕ)). x.now) b ∙ sym q;
+    within = omega arith;
+    fed = subst (λ (n : ℕ). FedFrom t file m n m) (sym z) fed_none;
+  })
 
-  pub trace_refused : (r : Refusal) → checked ≡ Trace.Refused r → Judged t file property (refused r.number r.place)
+  pub fed_on : {reader reader' : TraceReader} {before after : Monitor} {x : ℕ} {reply : Reply Psl.Verdict} → Fed t file m reader before
+      → gives reader ≡ Some x → reader' ≡ moved reader → StepIs t before x reply after → Fed t file m reader' after
+  fed_on {reader} {reader'} {before} {after} {x} {reply} f e a s =
+      let g = sample_read reader.bytes.now reader.at e in
+      let next : reader'.at ≡ reader.at + 1 = ap (λ (r : TraceReader). r.at) a ∙ g.2 in
+      let l = subst (λ (b : List ℕ). reader.at < cycles_of b) f.bytes g.0 in
+      record {
+        bytes = ap (λ (r : TraceReader). r.bytes.now) a ∙ f.bytes;
+        within = omega arith;
+        fed = subst (λ (n : ℕ). FedFrom t file m n after) (sym next)
+            (fed_more f.fed (subst (λ (y : ℕ). StepIs t before y reply after) (g.1 ∙ ap (λ (b : List ℕ). sample_at b reader.at) f.bytes) s));
+      }
+
+  pub all_fed : {reader : TraceReader} {after : Monitor} → Fed t file m reader after → gives reader ≡ None → Last t file m (cycles_of file) after.stand.verdict
+  all_fed {reader} {after} f e =
+      let l = subst (λ (b : List ℕ). cycles_of b ≤ reader.at) f.bytes (end_read reader.bytes.now reader.at e) in
+      let k = f.within in
+      record { after = after; fed = subst (λ (n : ℕ). FedFrom t file m n after) (omega arith) f.fed; stands = refl }
+
+-- the answer by what opening said
+pub not_in : (t file : List ℕ) (property : ℕ) (answer : Result Counts Refusal) (m : Monitor) → OpenIs t property (checked_reply answer) m
+    → (r : Refusal) → answer ≡ Err r → Judged t file property (refused r.number r.place)
+not_in t file property answer m o r e = by refl (subst (λ (a : Result Counts Refusal). OpenIs t property (checked_reply a) m) e o)
+  where
+    by : {reply : Reply Counts} → reply ≡ refused r.number r.place → OpenIs t property reply m → Judged t file property (refused r.number r.place)
+    by q (no_table c s) = J.no_table (c ∙ q)
+    by q (no_property c l s) = let h = refused_one q in rw (sym h.0, sym h.1) (J.no_property c l)
+    by q (opened c l b y) = absurd (not_both (sym q))
+
+-- and of a property that was opened, by what the check of the trace said
+module _ (t file : List ℕ) (property : ℕ) (answer : Result Counts Refusal) (m : Monitor) (is_open : OpenIs t property (checked_reply answer) m)
+    (counts : Counts) (let_in : answer ≡ Ok counts) (checked : Result ℕ Refusal) (told : trace_reply checked ≡ file_reply counts.signals file) where
+  o : OpenIs t property (granted counts) m
+  o = subst (λ (a : Result Counts Refusal). OpenIs t property (checked_reply a) m) let_in is_open
+
+  pub trace_refused : (r : Refusal) → checked ≡ Err r → Judged t file property (refused r.number r.place)
   trace_refused r c = by o
     where
       by : OpenIs t property (granted counts) m → Judged t file property (refused r.number r.place)
-      by (opened e l b y) = no_trace e l (says (ap trace_reply c))
+      by (opened e l b y) = no_trace e l (sym told ∙ ap trace_reply c)
 
-  pub trace_judged : (cycles : ℕ) (verdict : Verdict) → checked ≡ Trace.Accepted cycles → (cycles ≤ cycles_of file → Last t file m cycles verdict)
+  pub trace_judged : (cycles : ℕ) (verdict : Verdict) → checked ≡ Ok cycles → Last t file m (cycles_of file) verdict
       → Judged t file property (granted (verdict_of verdict))
-  trace_judged cycles verdict c last = by o
+  trace_judged cycles verdict c q = by o
     where
+      k : file_reply counts.signals file ≡ granted cycles
+      k = sym told ∙ ap trace_reply c
+
       by : OpenIs t property (granted counts) m → Judged t file property (granted (verdict_of verdict))
       by (opened e l b y) =
-          let k = says (ap trace_reply c) in
-          let d = accepted_gives counts.signals file cycles k in
-          let q = last (omega (arith, d.its_cycles)) in
-          given {d = verdict_of verdict} e l k (rw q.stands (last_right t file counts property cycles m d o q.after (subst (λ (n : ℕ). FedFrom t file m n q.after) d.its_cycles q.fed)))
-
--- the answer by what opening said
-module _ (t file : List ℕ) (property : ℕ) (answer : Checked) (m : Monitor) (o : OpenIs t property (checked_reply answer) m) where
-  pub not_in : (r : Refusal) → answer ≡ Table.Refused r → Judged t file property (refused r.number r.place)
-  not_in r e = by refl (subst (λ (a : Checked). OpenIs t property (checked_reply a) m) e o)
-    where
-      by : {reply : Reply Counts} → reply ≡ refused r.number r.place → OpenIs t property reply m → Judged t file property (refused r.number r.place)
-      by q (no_table c s) = J.no_table (c ∙ q)
-      by q (no_property c l s) = let h = refused_one q in rw (sym h.0, sym h.1) (J.no_property c l)
-      by q (opened c l b y) = absurd (not_both (sym q))
-
-pub let_in : (t : List ℕ) (property : ℕ) (answer : Checked) (m : Monitor) → OpenIs t property (checked_reply answer) m → (counts : Counts) → answer ≡ Table.Accepted counts
-    → OpenIs t property (granted counts) m
-let_in t property answer m o counts e = subst (λ (a : Checked). OpenIs t property (checked_reply a) m) e o
+          given {d = verdict_of verdict} e l k (rw q.stands (last_right t file counts property cycles m (accepted_gives counts.signals file cycles k) o q.after q.fed))

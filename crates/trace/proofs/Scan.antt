@@ -10,11 +10,11 @@ use lib.ListN.{length}
 use Rattle.trace.specs.Trace.{sample_at}
 use Rattle.trace.specs.Refusals.{refuse, header_of, header_right, undeclared, declared_from, declared_of, checked_trace}
 use Rattle.trace.specs.declared.header.Header.{Header}
-use Rattle.trace.specs.declared.refusals.TraceChecked.{TraceChecked}
-use Rattle.trace.specs.declared.refusals.TraceChecked.TheVariants.{Accepted}
+use Rattle.std.specs.Prelude.{Result, Ok}
+use Rattle.table.specs.declared.Refusal.{Refusal}
 
 module _ (S : ℕ) (bytes : List ℕ) (cycles : ℕ) where
-  pub left : ℕ → TraceChecked
+  pub left : ℕ → Result ℕ Refusal
   left i = declared_from S bytes cycles (cycles - i) i
 
   pub scan_start : left 0 ≡ declared_of S bytes cycles
@@ -34,7 +34,7 @@ module _ (S : ℕ) (bytes : List ℕ) (cycles : ℕ) where
   pub scan_next : (i : ℕ) → i < cycles → undeclared S (sample_at bytes i) ≡ false → left i ≡ left (i + 1)
   scan_next i l e = one i l ∙ ap (λ (b : Bool). cond b (refuse 13 (i + 1)) (left (i + 1))) e
 
-  pub scan_end : (i : ℕ) → cycles ≤ i → left i ≡ Accepted cycles
+  pub scan_end : (i : ℕ) → cycles ≤ i → left i ≡ Ok cycles
   unfolding left declared_from
   scan_end i l = let e : cycles - i ≡ 0 = omega arith in ap (λ (n : ℕ). declared_from S bytes cycles n i) e
 
@@ -44,7 +44,7 @@ module _ (S : ℕ) (bytes : List ℕ) (header : Header) (r : Bool) (read : heade
   unfolding checked_trace header_of
   answer = sym ((λ i. cond (told i) (declared_of S bytes header.cycles) (refuse 15 0)) ∙ (λ i. cond (header_right (read i) S (length bytes)) (declared_of S bytes (read i).cycles) (refuse 15 0)))
 
-  pub answer_right : (z : TraceChecked) → r ≡ true → z ≡ declared_of S bytes header.cycles → z ≡ checked_trace S bytes
+  pub answer_right : (z : Result ℕ Refusal) → r ≡ true → z ≡ declared_of S bytes header.cycles → z ≡ checked_trace S bytes
   answer_right z e p = p ∙ sym (answer ∙ ap (λ (b : Bool). cond b (declared_of S bytes header.cycles) (refuse 15 0)) e)
 
   pub answer_wrong : r ≡ false → refuse 15 0 ≡ checked_trace S bytes

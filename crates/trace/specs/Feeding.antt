@@ -7,7 +7,7 @@ use Rattle.table.specs.Reply.{Reply, granted}
 use Rattle.table.specs.Trees.{property_of}
 use Rattle.table.specs.declared.Counts.{Counts}
 use Rattle.words.specs.Sets.{HasFrom}
-use Rattle.monitor.specs.declared.Verdict.{Verdict}
+use Rattle.monitor.specs.declared.verdict.Verdict.{Verdict}
 use Rattle.monitor.specs.declared.Monitor.{Monitor}
 use Rattle.monitor.specs.Opens.{count_limit, OpenIs}
 use Rattle.monitor.specs.Follows.{verdict_of, Undeclared, StepIs}
@@ -20,11 +20,6 @@ use Rattle.trace.specs.Meaning.{Declared}
 pub data FedFrom (t file : List ℕ) (m : Monitor) : ℕ → Monitor → Type 0 where
   fed_none : FedFrom t file m 0 m
   fed_more : {n : ℕ} {before after : Monitor} {reply : Reply Psl.Verdict} → FedFrom t file m n before → StepIs t before (sample_at file n) reply after → FedFrom t file m (n + 1) after
-
--- A step with the sample of cycle n, counted from 0; where the file has none, the monitor stays.
-pub record Stepping (t file : List ℕ) (n : ℕ) (before after : Monitor) : Type 0 where
-  pub steps : n < cycles_of file → (reply : Reply Psl.Verdict) × StepIs t before (sample_at file n) reply after
-  pub stays : cycles_of file ≤ n → after ≡ before
 
 -- The verdict that stands after n samples.
 pub record Last (t file : List ℕ) (m : Monitor) (n : ℕ) (verdict : Verdict) : Type 0 where

@@ -1,14 +1,13 @@
 -- The check of a trace file: "15, 13 (lowest cycle)".
-use Rattle.std.specs.Prelude.{ℕ, zero, suc, ◌+◌, ◌*◌, ◌^◌, Bool, ◌&&◌, cond, List, eqb, leb, length}
+use Rattle.std.specs.Prelude.{ℕ, zero, suc, ◌+◌, ◌*◌, ◌^◌, Bool, ◌&&◌, cond, List, eqb, leb, length, Result, Ok, Err}
 use Rattle.little.specs.Bytes.{u16_at, u32_at}
 use Rattle.table.specs.Reply.{Reply, refused, granted}
+use Rattle.table.specs.declared.Refusal.{Refusal}
 use Rattle.trace.specs.Trace.{cycles_most, cycles_of, sample_at}
 use Rattle.trace.specs.declared.header.Header.{Header}
-use Rattle.trace.specs.declared.refusals.TraceChecked.{TraceChecked}
-use Rattle.trace.specs.declared.refusals.TraceChecked.TheVariants.{Accepted, Refused}
 
-abbrev pub refuse : ℕ → ℕ → TraceChecked
-refuse number place = Refused (record { number = number; place = place })
+abbrev pub refuse : ℕ → ℕ → Result ℕ Refusal
+refuse number place = Err (record { number = number; place = place })
 
 -- "Header of 12 bytes: version u16 ..; signals u16 ..; cycles C u32 ..; offset of samples u32"
 unfoldable pub header_of : List ℕ → Header
@@ -25,22 +24,22 @@ unfoldable pub undeclared : ℕ → ℕ → Bool
 undeclared S sample = leb (2 ^ S) sample
 
 -- The n cycles from cycle i on, counted from 0, and "A cycle given as a place counts from 1".
-unfoldable pub declared_from : ℕ → List ℕ → ℕ → ℕ → ℕ → TraceChecked
-declared_from S bytes cycles zero i = Accepted cycles
+unfoldable pub declared_from : ℕ → List ℕ → ℕ → ℕ → ℕ → Result ℕ Refusal
+declared_from S bytes cycles zero i = Ok cycles
 declared_from S bytes cycles (suc n) i = cond (undeclared S (sample_at bytes i)) (refuse 13 (i + 1)) (declared_from S bytes cycles n (suc i))
 
 -- 13 at the lowest cycle that sets such a bit
-unfoldable pub declared_of : ℕ → List ℕ → ℕ → TraceChecked
+unfoldable pub declared_of : ℕ → List ℕ → ℕ → Result ℕ Refusal
 declared_of S bytes cycles = declared_from S bytes cycles cycles 0
 
 -- 15, then 13
-unfoldable pub checked_trace : ℕ → List ℕ → TraceChecked
+unfoldable pub checked_trace : ℕ → List ℕ → Result ℕ Refusal
 checked_trace S bytes = cond (header_right (header_of bytes) S (length bytes)) (declared_of S bytes (cycles_of bytes)) (refuse 15 0)
 
 -- Document 01's number and values for each case of the answer: the cycles of a right trace, a refusal's number and place.
-abbrev pub trace_reply : TraceChecked → Reply ℕ
-trace_reply (Accepted cycles) = granted cycles
-trace_reply (Refused r) = refused r.number r.place
+abbrev pub trace_reply : Result ℕ Refusal → Reply ℕ
+trace_reply (Ok cycles) = granted cycles
+trace_reply (Err r) = refused r.number r.place
 
 -- What document 01 answers to these bytes as a trace of S signals.
 abbrev pub file_reply : ℕ → List ℕ → Reply ℕ

@@ -1,5 +1,5 @@
 -- Any two answers that a contract of this crate allows are equal. Bytes lent by `&` are as they were: no function can change them.
-use Rattle.std.specs.Prelude.{ℕ, List, ◌≡◌, refl}
+use Rattle.std.specs.Prelude.{ℕ, List, ◌≡◌, refl, Option, Result, Ok, Err}
 use Rattle.std.proofs.Common.{sym, ◌∙◌, ap, subst}
 use Rattle.std.specs.Borrow.{Bor}
 use Rattle.psl.specs.Verdicts.{Verdict, Right}
@@ -8,14 +8,12 @@ use Rattle.table.specs.Reply.{Reply, refused, granted, not_both, granted_one, re
 use Rattle.table.specs.Trees.{property_of}
 use Rattle.table.specs.Check.{table_reply}
 use Rattle.table.specs.declared.Counts.{Counts}
+use Rattle.table.specs.declared.Refusal.{Refusal}
 use Rattle.monitor.specs.Unique.{too_far}
 use Rattle.trace.specs.Trace.{samples_of}
 use Rattle.trace.specs.Refusals.{trace_reply, file_reply}
 use Rattle.trace.specs.Judging.{Judged, no_table, no_property, no_trace, given}
 use Rattle.trace.specs.Reader.{gives, moved}
-use Rattle.trace.specs.declared.refusals.TraceChecked.{TraceChecked}
-use Rattle.trace.specs.declared.refusals.TraceChecked.TheVariants.{Accepted, Refused}
-use Rattle.trace.specs.declared.reader.Next.{Next}
 use Rattle.trace.specs.declared.reader.TraceReader.{TraceReader}
 
 -- given by an equation: `cycles_of`, `sample_at`, `Header::new`, `Header::is_right`, `reading_at`, `next_at`
@@ -23,13 +21,13 @@ pub equation_one : {A : Type 0} {answer r s : A} → r ≡ answer → s ≡ answ
 equation_one p q = p ∙ sym q
 
 -- `check_trace`: two answers that reply the same are the same answer
-replies_one : (x y : TraceChecked) → trace_reply x ≡ trace_reply y → x ≡ y
-replies_one (Accepted c) (Accepted d) e = ap Accepted (granted_one e)
-replies_one (Accepted c) (Refused r) e = absurd (not_both (sym e))
-replies_one (Refused r) (Accepted c) e = absurd (not_both e)
-replies_one (Refused r) (Refused q) e = let h = refused_one e in λ i. Refused (record { number = h.0 i; place = h.1 i })
+replies_one : (x y : Result ℕ Refusal) → trace_reply x ≡ trace_reply y → x ≡ y
+replies_one (Ok c) (Ok d) e = ap Ok (granted_one e)
+replies_one (Ok c) (Err r) e = absurd (not_both (sym e))
+replies_one (Err r) (Ok c) e = absurd (not_both e)
+replies_one (Err r) (Err q) e = let h = refused_one e in λ i. Err (record { number = h.0 i; place = h.1 i })
 
-pub check_one : (S : ℕ) (bytes : List ℕ) (x y : TraceChecked) → trace_reply x ≡ file_reply S bytes → trace_reply y ≡ file_reply S bytes → x ≡ y
+pub check_one : (S : ℕ) (bytes : List ℕ) (x y : Result ℕ Refusal) → trace_reply x ≡ file_reply S bytes → trace_reply y ≡ file_reply S bytes → x ≡ y
 check_one S bytes x y p q = replies_one x y (p ∙ sym q)
 
 -- `TraceReader::new`
@@ -37,7 +35,7 @@ pub new_one : (bytes : Bor (List ℕ)) (r s : TraceReader) → (r.bytes ≡ byte
 new_one bytes r s p q = λ i. record { bytes = equation_one p.0 q.0 i; at = equation_one p.1 q.1 i }
 
 -- `TraceReader::next`: the answer, and the reader afterwards
-pub next_one : (reader : TraceReader) (r s : Next) (after after' : TraceReader)
+pub next_one : (reader : TraceReader) (r s : Option ℕ) (after after' : TraceReader)
     → (r ≡ gives reader) × (after ≡ moved reader) → (s ≡ gives reader) × (after' ≡ moved reader) → (r ≡ s) × (after ≡ after')
 next_one reader r s after after' p q = (equation_one p.0 q.0, equation_one p.1 q.1)
 

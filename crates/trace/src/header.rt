@@ -4,7 +4,7 @@ ghost use Rattle.trace.specs.Refusals.{header_of, header_right};
 
 use little::{u16_at, u32_at};
 
-#[derive(Clone, Copy)]
+#[derive(Clone, Copy, PartialEq, Eq)]
 pub struct Header {
     pub version: u16,
     pub signals: u16,
@@ -38,9 +38,10 @@ impl Header {
         ensures { result ≡ header_right self signals length }
     {
         (self.version == 1)
-            & (self.signals == (signals as u16))
+            & (self.signals == u16::from(signals))
             & (self.cycles <= Self::CYCLES)
             & (self.offset == Self::SIZE)
+            // `usize` has no `From` of `u32`
             & (length == (Self::SIZE as usize) + 4 * (self.cycles as usize))
     }
 }

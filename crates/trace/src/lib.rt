@@ -11,5 +11,5 @@ pub mod samples;
 
 pub use header::Header;
 pub use judging::judge;
-pub use reader::{Next, Reading, TraceReader};
-pub use refusals::{TraceChecked, check_trace};
+pub use reader::{Reading, TraceReader};
+pub use refusals::check_trace;

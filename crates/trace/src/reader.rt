@@ -1,26 +1,21 @@
 // A reader over a lent trace: it holds the bytes and the place of the next sample, and gives one sample after the other.
-ghost use Rattle.std.specs.Prelude.{◌≡◌};
+ghost use Rattle.std.specs.Prelude.{◌≡◌, ◌-◌};
+ghost use Rattle.std.specs.Iterator.{at_most};
+ghost use Rattle.trace.specs.Trace.{cycles_of};
 ghost use Rattle.trace.specs.Reader.{reading_at, gives, moved};
 
 use crate::samples::{cycles_of, sample_at};
 
-#[derive(Clone, Copy)]
+#[derive(Clone, Copy, Drop)]
 pub struct TraceReader<'a> {
     pub bytes: &'a [u8],
     pub at: u32,
 }
 
-// The next sample, or that there is none.
-#[derive(Clone, Copy)]
-pub enum Next {
-    Sample(u32),
-    End,
-}
-
 // What a reader gives, and the place where it stands then.
-#[derive(Clone, Copy)]
+#[derive(Clone, Copy, PartialEq, Eq)]
 pub struct Reading {
-    pub next: Next,
+    pub next: Option<u32>,
     pub at: u32,
 }
 
@@ -30,14 +25,11 @@ pub fn reading_at(bytes: &[u8], at: u32) -> Reading
 {
     if at < cycles_of(bytes) {
         Reading {
-            next: Next::Sample(sample_at(bytes, at)),
+            next: Some(sample_at(bytes, at)),
             at: at + 1,
         }
     } else {
-        Reading {
-            next: Next::End,
-            at,
-        }
+        Reading { next: None, at }
     }
 }
 
@@ -48,11 +40,17 @@ impl<'a> TraceReader<'a> {
     {
         TraceReader { bytes, at: 0 }
     }
+}
+
+impl<'a> Iterator for TraceReader<'a> {
+    type Item = u32;
+
+    ghost next_gives = { λ reader result after. (result ≡ gives reader) × (after ≡ moved reader) };
+
+    ghost remaining = { λ reader. at_most (cycles_of reader.bytes.now - reader.at) };
 
     // Gives the sample at its place, and stands at the next one then.
-    pub fn next(&mut self) -> Next
-        ensures { (result ≡ gives self.old) × (self.new ≡ moved self.old) }
-    {
+    fn next(&mut self) -> Option<u32> {
         let reading = reading_at(self.bytes, self.at);
         self.at = reading.at;
         reading.next
@@ -60,9 +58,8 @@ impl<'a> TraceReader<'a> {
 }
 
 // What a reader at a place gives, for whoever has the bytes and the place.
-pub fn next_at(bytes: &[u8], at: u32) -> Next
+pub fn next_at(bytes: &[u8], at: u32) -> Option<u32>
     ensures { result ≡ (reading_at bytes.now at).next }
 {
-    let mut reader = TraceReader { bytes, at };
-    reader.next()
+    TraceReader { bytes, at }.next()
 }

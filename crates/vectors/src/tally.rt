@@ -1,8 +1,50 @@
 // Counts what was compared, and shows the first differences.
-use std::io;
+use std::fmt;
+
+// One answer that was compared.
+#[derive(Clone, Copy)]
+pub(crate) struct Seen {
+    pub(crate) expected: u64,
+    pub(crate) answer: u64,
+    pub(crate) agrees: bool,
+}
+
+impl Seen {
+    // An answer that agrees where it is the one expected.
+    pub(crate) fn answered(expected: u64, answer: u64) -> Self {
+        Self {
+            expected,
+            answer,
+            agrees: expected == answer,
+        }
+    }
+
+    // The same, which agrees only where the monitor is left as it should be.
+    pub(crate) fn and_left(self, left: bool) -> Self {
+        Self {
+            agrees: self.agrees && left,
+            ..self
+        }
+    }
+}
+
+impl fmt::Display for Seen {
+    fn fmt<W: fmt::Write>(&self, f: &mut fmt::Formatter<W>) -> fmt::Result {
+        let Seen {
+            expected,
+            answer,
+            ..
+        } = *self;
+        write!(f, "expected {expected}, answered {answer}")?;
+        if expected == answer {
+            write!(f, " and left another monitor")?;
+        }
+        Ok(())
+    }
+}
 
 // What was compared so far of one kind of record.
-#[derive(Clone, Copy)]
+#[derive(Clone, Copy, Default)]
 pub(crate) struct Tally {
     compared: u64,
     differ: u64,
@@ -12,65 +54,23 @@ impl Tally {
     // Differences that are shown.
     const SHOWN: u64 = 5;
 
-    pub(crate) fn new() -> Self {
-        Self {
-            compared: 0,
-            differ: 0,
+    // One more answer to a record of this number, shown where it does not agree.
+    pub(crate) fn add(&mut self, rt: &impl Print, record: u64, seen: Seen) {
+        self.compared = self.compared.saturating_add(1);
+        if seen.agrees {
+            return;
         }
-    }
-
-    // One more that agrees, or that differs.
-    fn with(self, agrees: bool) -> Self {
-        if agrees {
-            Self {
-                compared: more(self.compared),
-                differ: self.differ,
-            }
-        } else {
-            Self {
-                compared: more(self.compared),
-                differ: more(self.differ),
-            }
-        }
-    }
-
-    // One more answer, shown where it does not agree with the one expected.
-    pub(crate) fn judged(
-        self,
-        rt: &impl Print,
-        at: u64,
-        expected: u64,
-        answer: u64,
-        agrees: bool,
-    ) -> Self {
-        if !agrees && self.differ < Self::SHOWN {
+        if self.differ < Self::SHOWN {
             // One that could not be shown is counted all the same.
-            let _ = show(rt, at, expected, answer);
+            let _ = println!(rt; "record {record}: {seen}");
         }
-        self.with(agrees)
-    }
-
-    // One more answer, which agrees where it is the one expected.
-    pub(crate) fn answered(self, rt: &impl Print, at: u64, expected: u64, answer: u64) -> Self {
-        self.judged(rt, at, expected, answer, expected == answer)
-    }
-
-    // Says how many were compared.
-    pub(crate) fn print(self, rt: &impl Print, kind: &str) -> io::Result<()> {
-        let Tally { compared, differ } = self;
-        println!(rt; "{kind}: {compared} compared, {differ} differ")
+        self.differ = self.differ.saturating_add(1);
     }
 }
 
-// One more, as far as it can be counted.
-pub(crate) fn more(count: u64) -> u64 {
-    if count < u64::MAX { count + 1 } else { count }
-}
-
-fn show(rt: &impl Print, at: u64, expected: u64, answer: u64) -> io::Result<()> {
-    print!(rt; "record {at}: expected {expected}, answered {answer}")?;
-    if expected == answer {
-        print!(rt; " and left another monitor")?;
+impl fmt::Display for Tally {
+    fn fmt<W: fmt::Write>(&self, f: &mut fmt::Formatter<W>) -> fmt::Result {
+        let Tally { compared, differ } = *self;
+        write!(f, "{compared} compared, {differ} differ")
     }
-    println!(rt; "")
 }

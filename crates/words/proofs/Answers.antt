@@ -1,5 +1,5 @@
 -- What the code computes is what the contracts say: each function's answer as a number.
-use Rattle.std.proofs.Common.{◌≡◌, ℕ, ◌+◌, ◌-◌, ◌*◌, ◌/◌, ◌%◌, ◌^◌, ◌<◌, ◌≤◌, Bool, true, false, not, ◌&&◌, ◌||◌, eqb, ltb, leb, sym, refl, ap, ◌∙◌, subst, mod-eq_of_lt, one-mul, le-div_iff_mul-le, zero-mul, arith, pow_pos, shl_exact, lt-ltb, eq-eqb, ne_eqb, le-leb}
+use Rattle.std.proofs.Common.{◌≡◌, ℕ, ◌+◌, ◌-◌, ◌*◌, ◌/◌, ◌%◌, ◌^◌, ◌<◌, ◌≤◌, Bool, true, false, not, ◌&&◌, ◌||◌, eqb, ltb, leb, sym, refl, ap, ◌∙◌, subst, mod-eq_of_lt, one-mul, le-div_iff_mul-le, zero-mul, arith, pow_pos, shl_exact, lt-ltb, le-ltb, eq-eqb, ne_eqb, le-leb}
 use native.Mathlib.Nat.{div-eq_of_lt}
 use native.Mathlib.Decide.{dec_lt}
 use lib.Bits.{bit_or, bit_and, or_zero_r, and_le_r}
@@ -41,12 +41,12 @@ without_bit_is word index fits = record { each = λ k. rw (one_shifted index) (e
         ∙ drops (bit word k) (ltb k 64) (not (bit (2 ^ i) k)) (λ e. lt-ltb k 64 (set_below 64 word k fits e))
         ∙ ap (λ (b : Bool). bit word k && not b) (bit_one i k)
 
--- below is word - 1 as it wraps
-pub without_lowest_is : (word below : ℕ) → word < 2 ^ 64 → below < 2 ^ 64 → (below + 1) % 2 ^ 64 ≡ word → Without Lowest word (bit_and word below)
-without_lowest_is word below fits small wraps = elim (dec_lt 0 word) [ yes some ↦ go some | no none ↦ (let e : word ≡ 0 = omega arith in rw e of_none) ]
+-- word - 1 as it wraps
+pub without_lowest_is : (word : ℕ) → word < 2 ^ 64 → Without Lowest word (bit_and word ((word + (2 ^ 64 - 1)) % 2 ^ 64))
+without_lowest_is word fits = elim (dec_lt 0 word) [ yes some ↦ go some | no none ↦ (let e : word ≡ 0 = omega arith in rw e of_none) ]
   where
-    go : 0 < word → Without Lowest word (bit_and word below)
-    go some = let e : below ≡ word - 1 = omega arith in rw e (record {
+    go : 0 < word → Without Lowest word (bit_and word ((word + (2 ^ 64 - 1)) % 2 ^ 64))
+    go some = let e : (word + (2 ^ 64 - 1)) % 2 ^ 64 ≡ word - 1 = omega arith in rw e (record {
       each = λ n low k. rw (lowest_one word n (count_trailing_zeros 64 word) low (lowest_is word fits)) (ending_less word _ (trailing_ends 64 word some fits) k);
       less = λ z. let h = and_le_r word (word - 1) in omega arith;
     })
@@ -87,5 +87,5 @@ has_from_is word index = rw shifted (has_from word index)
           rw (le-leb (2 ^ index) word g, ne_eqb (word / 2 ^ index) 0 n))
     ]
 
-pub has_from_none : (word index : ℕ) → word < 2 ^ 64 → 64 ≤ index → Tells (HasFrom word index) false
-has_from_none word index fits far = doesnt (λ h. let l = set_below 64 word h.0 fits h.2 in omega (arith, h.1))
+pub has_from_none : (word index : ℕ) → word < 2 ^ 64 → 64 ≤ index → Tells (HasFrom word index) (ltb index 64)
+has_from_none word index fits far = rw (le-ltb index 64 far) (doesnt (λ h. let l = set_below 64 word h.0 fits h.2 in omega (arith, h.1)))

@@ -1,13 +1,14 @@
 -- Any two answers that a contract of this crate allows are equal. A word is below 2 ^ 64. (`bit` is given by an equation, and a Boolean that tells of a
 -- statement is one: `has_from_one`.)
-use Rattle.std.specs.Prelude.{◌≡◌, ℕ, zero, suc, ◌+◌, ◌^◌, ◌<◌, Bool, true, false, T, ◌≢◌, refl}
-use Rattle.std.proofs.Common.{pow-suc, lt_of_lt_of_le, arith, sym, ◌∙◌, subst, pow_mono}
+use Rattle.std.specs.Prelude.{◌≡◌, ℕ, zero, suc, ◌+◌, ◌^◌, ◌<◌, Bool, true, false, T, ◌≢◌, Option, Some, None, refl}
+use Rattle.std.proofs.Common.{pow-suc, lt_of_lt_of_le, arith, sym, ◌∙◌, ap, subst, pow_mono}
 use Rattle.std.proofs.Math.Decide.{dec_lt}
 use Rattle.psl.specs.Booleans.{bit}
 use Rattle.psl.specs.Tells.{Tells, tells_true, tells_false}
 use Rattle.words.specs.Bits.{same_bits}
 use Rattle.words.specs.Ends.{lowest_is, highest_is, highest_none}
 use Rattle.words.specs.Sets.{WithBit, WithoutBit, HasFrom, Lowest, Highest, Without}
+use Rattle.words.specs.Walk.{TakesFrom}
 
 clash : {b : Bool} → b ≡ true → b ≢ false
 clash p q = subst T (sym p ∙ q) tt
@@ -63,3 +64,20 @@ without_highest_one word r s fits = elim (dec_lt 0 word) [
   | yes some ↦ without_one Highest word _ r s (highest_is word some fits)
   | no none ↦ without_one Highest word 64 r s (let e : word ≡ 0 = omega arith in rw e highest_none)
 ]
+
+-- what the iterator gives, and the word that it then has
+takes_one : (End : ℕ → ℕ → Type 0) (word : ℕ) (r s : Option ℕ) (x y : ℕ) → ((n m : ℕ) → End word n → End word m → n ≡ m) → word < 2 ^ 64
+    → TakesFrom End word r x → TakesFrom End word s y → (r ≡ s) × (x ≡ y)
+takes_one End word None None x y same fits a b = (refl, a.1 ∙ sym b.1)
+takes_one End word (Some n) None x y same fits a b = absurd (let l = a.1.less in omega (arith, b.0))
+takes_one End word None (Some m) x y same fits a b = absurd (let l = b.1.less in omega (arith, a.0))
+takes_one End word (Some n) (Some m) x y same fits a b =
+    let e = same n m a.0 b.0 in
+    let l = a.1.less in let h = b.1.less in
+    (ap Some e, same_bits 64 x y (omega arith) (omega arith) (λ k i. rw e at (a.1.each k) ∙ sym (b.1.each k)))
+
+pub takes_lowest_one : (word : ℕ) (r s : Option ℕ) (x y : ℕ) → word < 2 ^ 64 → TakesFrom Lowest word r x → TakesFrom Lowest word s y → (r ≡ s) × (x ≡ y)
+takes_lowest_one word r s x y = takes_one Lowest word r s x y (lowest_one word)
+
+pub takes_highest_one : (word : ℕ) (r s : Option ℕ) (x y : ℕ) → word < 2 ^ 64 → TakesFrom Highest word r x → TakesFrom Highest word s y → (r ≡ s) × (x ≡ y)
+takes_highest_one word r s x y = takes_one Highest word r s x y (highest_one word)

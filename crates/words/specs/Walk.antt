@@ -1,6 +1,6 @@
--- A walk through a set, `while word != 0 { n = lowest(word); word = without_lowest(word); .. }`, and the same downwards by the highest: what one
--- turn takes, that the word itself falls, and an invariant for the loop.
-use Rattle.std.specs.Prelude.{◌≡◌, ℕ, ◌<◌, Bool, true, false, not, ◌&&◌, T, ◌==◌, ◌≢◌, refl}
+-- A walk through a set, `for n in Members(word) { .. }`, and the same downwards by `rev`: what one turn takes, that the word itself falls, and an invariant
+-- for the loop.
+use Rattle.std.specs.Prelude.{◌≡◌, ℕ, ◌<◌, Bool, true, false, not, ◌&&◌, T, ◌==◌, ◌≢◌, Option, MatchOption, refl}
 use Rattle.std.proofs.Common.{arith, sym, ◌∙◌, subst, eqb-true, eq-eqb}
 use Rattle.std.proofs.Math.Decide.{dec_lt}
 use Rattle.psl.specs.Booleans.{bit}
@@ -19,6 +19,10 @@ turn_up {word} {n} some low less = record { small = low.small some; set = low.se
 
 pub turn_down : {word n rest : ℕ} → 0 < word → Highest word n → Without Highest word rest → Turn word n rest
 turn_down {word} {n} some top less = record { small = top.small some; set = top.set some; each = less.each n top; less = less.less some }
+
+-- A call of the iterator that has the word: the number at one end, and the word without it, or nothing of nothing.
+abbrev pub TakesFrom : (ℕ → ℕ → Type 0) → ℕ → Option ℕ → ℕ → Type 0
+TakesFrom End word r rest = MatchOption r ((word ≡ 0) × (rest ≡ 0)) (λ n. End word n × Turn word n rest)
 
 -- a number of the rest is a number of the word, and another than n
 pub rest_in : {word n rest : ℕ} → Turn word n rest → (k : ℕ) → bit rest k ≡ true → (bit word k ≡ true) × (k ≢ n)

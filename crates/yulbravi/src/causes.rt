@@ -1,8 +1,8 @@
 // Of a refusal the cause that a person can act on: one line, the first that applies.
-use crate::notes::{note, note_one, note_two};
+use crate::notes::note;
 use little::u16_at;
 use standing::Standing;
-use table::Refusal;
+use table::{Cause, Refusal};
 use trace::Header;
 
 // The version of tables and of traces, and the bytes of a table's header.
@@ -10,34 +10,25 @@ const VERSION: u16 = 1;
 
 const TABLE_HEADER: u16 = 16;
 
-// The refusals: 1 to 4 of a table's header, to 11 of a table, 13 of a sample.
-const NO_HEADER: u8 = 1;
-
-const LAST_OF_HEADER: u8 = 4;
-
-const LAST_OF_TABLE: u8 = 11;
-
-const UNDECLARED: u8 = 13;
-
 // Whether the bytes begin as a trace does, and as a table does.
 fn is_trace(bytes: &[u8]) -> bool {
     let header = Header::new(bytes);
-    (bytes.len() >= (Header::SIZE as usize))
-        & (header.version == VERSION)
-        & (header.offset == Header::SIZE)
+    bytes.len() >= Header::SIZE as usize
+        && header.version == VERSION
+        && header.offset == Header::SIZE
 }
 
 fn is_table(bytes: &[u8]) -> bool {
-    let roots = (TABLE_HEADER as u32) + 4 * (u16_at(bytes, 4) as u32);
-    (bytes.len() >= (TABLE_HEADER as usize))
-        & (u16_at(bytes, 0) == VERSION)
-        & (u16_at(bytes, 8) == TABLE_HEADER)
-        & ((u16_at(bytes, 10) as u32) == roots)
+    let roots = u32::from(TABLE_HEADER) + 4 * u32::from(u16_at(bytes, 4));
+    bytes.len() >= usize::from(TABLE_HEADER)
+        && u16_at(bytes, 0) == VERSION
+        && u16_at(bytes, 8) == TABLE_HEADER
+        && u32::from(u16_at(bytes, 10)) == roots
 }
 
 pub(crate) fn note_standing(table: &[u8], trace: &[u8], standing: Standing) {
     if let Standing::Refused(refusal) = standing {
-        if refusal.number <= LAST_OF_TABLE {
+        if refusal.number <= Cause::CellsTooMany.number() {
             note_table(table, refusal);
         } else {
             note_trace(trace, u16_at(table, 2), refusal);
@@ -46,23 +37,25 @@ pub(crate) fn note_standing(table: &[u8], trace: &[u8], standing: Standing) {
 }
 
 pub(crate) fn note_table(table: &[u8], refusal: Refusal) {
-    if (refusal.number <= LAST_OF_HEADER) & is_trace(table) {
-        note(b"table trace\n");
-    } else if (refusal.number == NO_HEADER) & (table.len() == 0) {
-        note(b"table empty\n");
+    let Refusal { number, place } = refusal;
+    if number <= Cause::TableLength.number() && is_trace(table) {
+        note("table trace");
+    } else if number == Cause::TableShort.number() && table.is_empty() {
+        note("table empty");
     } else {
-        note_two(b"table", refusal.number as u64, refusal.place as u64);
+        note(format_args!("table {number} {place}"));
     }
 }
 
 // Refusal 13, whose place is the cycle, and the causes of 15, for a table of so many signals.
 fn note_trace(trace: &[u8], signals: u16, refusal: Refusal) {
-    if refusal.number == UNDECLARED {
-        note_two(b"trace", UNDECLARED as u64, refusal.place as u64);
-    } else if trace.len() == 0 {
-        note(b"trace empty\n");
+    let Refusal { number, place } = refusal;
+    if number == Cause::SignalUndeclared.number() {
+        note(format_args!("trace {number} {place}"));
+    } else if trace.is_empty() {
+        note("trace empty");
     } else if is_table(trace) {
-        note(b"trace table\n");
+        note("trace table");
     } else {
         note_file(trace.len(), signals, Header::new(trace));
     }
@@ -71,24 +64,30 @@ fn note_trace(trace: &[u8], signals: u16, refusal: Refusal) {
 // A file of so many bytes, which begins with this header as far as they go.
 fn note_file(length: usize, signals: u16, header: Header) {
     let size = Header::SIZE as usize;
-    if (header.version != VERSION) | ((length >= size) & (header.offset != Header::SIZE)) {
-        note(b"trace none\n");
+    let Header {
+        version,
+        cycles,
+        offset,
+        ..
+    } = header;
+    if version != VERSION || (length >= size && offset != Header::SIZE) {
+        note("trace none");
     } else if length < size {
-        note_two(b"trace cut", size as u64, length as u64);
-    } else if header.cycles > Header::CYCLES {
-        note_one(b"trace cycles", header.cycles as u64);
+        note(format_args!("trace cut {size} {length}"));
+    } else if cycles > Header::CYCLES {
+        note(format_args!("trace cycles {cycles}"));
     } else if header.signals != signals {
-        note_two(b"trace signals", header.signals as u64, signals as u64);
+        note(format_args!("trace signals {} {signals}", header.signals));
     } else {
-        note_length(4 * (header.cycles as u64) + (size as u64), length as u64);
+        note_length(size + 4 * cycles as usize, length);
     }
 }
 
 // So many bytes are needed, and so many were read.
-fn note_length(needed: u64, has: u64) {
+fn note_length(needed: usize, has: usize) {
     if has < needed {
-        note_two(b"trace cut", needed, has);
+        note(format_args!("trace cut {needed} {has}"));
     } else {
-        note_one(b"trace long", needed);
+        note(format_args!("trace long {needed}"));
     }
 }

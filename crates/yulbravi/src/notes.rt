@@ -1,68 +1,43 @@
 // The notes: lines for the command, on a descriptor of their own. Where it is not open nobody asked for them, so no failed write is told.
-
-const NOTES: i32 = 9;
-
-// The system's numbers of errors.
-const EPERM: i32 = 1;
-
-const ENOENT: i32 = 2;
-
-const EACCES: i32 = 13;
-
-const ENOTDIR: i32 = 20;
-
-const EISDIR: i32 = 21;
+use crate::unread::Unread;
+use std::fmt;
+use std::fmt::{Display, Write};
 
 // The status of what was not run: a file that could not be read.
-const NOT_RUN: u32 = 2;
+pub(crate) const NOT_RUN: u32 = 2;
 
-pub(crate) fn note(text: &[u8]) {
-    io::write_all(NOTES, text);
+// The descriptor 9. `std` opens none by its number, so the kit's crate `io` writes there.
+#[derive(Drop)]
+struct Notes {}
+
+impl Notes {
+    const DESCRIPTOR: i32 = 9;
 }
 
-fn note_number(n: u64) {
-    note(b" ");
-    io::print_decimal(NOTES, n);
+impl Write for Notes {
+    fn write_str(&mut self, text: &str) -> fmt::Result {
+        io::write_all(Self::DESCRIPTOR, text.as_bytes());
+        Ok(())
+    }
 }
 
-// A line that ends in a number, and one that ends in two.
-pub(crate) fn note_one(text: &[u8], n: u64) {
-    note(text);
-    note_number(n);
-    note(b"\n");
-}
-
-pub(crate) fn note_two(text: &[u8], n: u64, m: u64) {
-    note(text);
-    note_number(n);
-    note_one(b"", m);
+// One line.
+pub(crate) fn note(line: impl Display + Drop) {
+    let mut notes = Notes {};
+    let _ = writeln!(notes, "{line}");
 }
 
 // The first line: the exit status, unless the lines on standard output could not be written.
-pub(crate) fn note_status(written: bool, unread: bool, status: u32) {
-    if !written {
-        note(b"unwritten\n");
-        return;
+pub(crate) fn note_status(written: std::io::Result<()>, status: u32) {
+    match written {
+        Ok(()) => note(status),
+        Err(_) => note("unwritten"),
     }
-    let told = if unread { NOT_RUN } else { status };
-    io::print_decimal(NOTES, told as u64);
-    note(b"\n");
 }
 
 // Why a file could not be read, where it could not.
-pub(crate) fn note_unread(file: &[u8], error: i32) {
-    if error == 0 {
-        return;
+pub(crate) fn note_unread(file: &str, read: Result<&[u8], Unread>) {
+    if let Err(unread) = read {
+        note(format_args!("{file} {unread}"));
     }
-    note(file);
-    match error {
-        ENOENT | ENOTDIR => note(b"missing\n"),
-        EISDIR => note(b"folder\n"),
-        EACCES | EPERM => note(b"closed\n"),
-        _ => note_one(b"unread", number(error)),
-    }
-}
-
-fn number(error: i32) -> u64 {
-    if error >= 0 { error as u64 } else { 0 }
 }

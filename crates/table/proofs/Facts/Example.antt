@@ -1,5 +1,5 @@
 -- Document 01's example table: it is accepted, so some table is, and what its properties read as.
-use Rattle.std.specs.Prelude.{ℕ, List, [], ◌∷◌, ◌≡◌, refl}
+use Rattle.std.specs.Prelude.{ℕ, List, [], ◌∷◌, ◌≡◌, refl, Ok}
 use Rattle.psl.specs.Booleans.{signal}
 use Rattle.psl.specs.Properties.{boolean, next, always, until}
 use Rattle.table.specs.Choice.{pick}
@@ -12,7 +12,6 @@ use Rattle.table.specs.Cells.{cell_rule}
 use Rattle.table.specs.First.{first_from, first_refusal, sum_to}
 use Rattle.table.specs.Trees.{read_by, read_at, boolean_by, boolean_row, boolean_at, property_by, property_row, property_at, property_of}
 use Rattle.table.specs.Check.{uses_onward, roots_onward, rows_onward, check_of}
-use Rattle.table.specs.declared.Checked.TheVariants.{Accepted}
 
 abbrev pub example : List ℕ
 example =
@@ -33,7 +32,7 @@ example =
     -- roots: nodes 2, 3, 4
     ∷ 2 ∷ 0 ∷ 3 ∷ 0 ∷ 4 ∷ 0 ∷ []
 
-pub example_accepted : check_of example ≡ Accepted (record { signals = 3; nodes = 5; properties = 3 })
+pub example_accepted : check_of example ≡ Ok (record { signals = 3; nodes = 5; properties = 3 })
 unfolding
     pick counts_of layout_fits header_of class_of takes_of fields_of edge_row row_at fields_ok operand_ok operands_ok row_rule root_at root_rule
     uses_in_row root_use uses_of use_rule cell_rule first_from first_refusal sum_to uses_onward roots_onward rows_onward check_of

@@ -2,7 +2,7 @@
 use Prim.Native.Nat.{ℕ, zero, suc, ◌+◌, ◌≤◌, ◌<◌}
 use Rattle.std.proofs.Common.{arith}
 use borrow.Author.Tests.{eqb-false}
-use Rattle.std.specs.Prelude.{Bool, true, false, List, ◌≡◌, eqb}
+use Rattle.std.specs.Prelude.{Bool, true, false, List, ◌≡◌, eqb, Result, Ok, Err, ⊤}
 use Rattle.std.proofs.Math.Path.{refl, subst}
 use Rattle.little.specs.Bytes.{u16_at}
 use Rattle.table.specs.Choice.{pick}
@@ -18,10 +18,6 @@ use Rattle.table.proofs.Laws.Headers.{header_so}
 use Rattle.table.specs.Subset.{Layout}
 use Rattle.table.specs.declared.Counts.{Counts}
 use Rattle.table.specs.declared.Refusal.{Refusal}
-use Rattle.table.specs.declared.Checked.{Checked}
-use Rattle.table.specs.declared.Checked.TheVariants.{Accepted, Refused}
-use Rattle.table.specs.declared.Found.{Found}
-use Rattle.table.specs.declared.Found.TheVariants.{Clear, At}
 use Rattle.table.specs.declared.kinds.Class.{Class}
 use Rattle.table.specs.declared.kinds.Class.TheVariants.{Boolean, Sequence, Property, Strong, Unknown}
 
@@ -31,13 +27,13 @@ pub record OfTable (r : Refusal) : Type 0 where
   pub place_below : r.place < 64
 
 -- P holds of the refusal that a run gives, if it gives one
-abbrev FoundSo : (Refusal → Type 0) → Found → Type 0
-FoundSo P Clear = Unit
-FoundSo P (At r) = P r
+abbrev FoundSo : (Refusal → Type 0) → Result ⊤ Refusal → Type 0
+FoundSo P (Ok tt) = Unit
+FoundSo P (Err r) = P r
 
-abbrev AnswerSo : Checked → Type 0
-AnswerSo (Accepted c) = Unit
-AnswerSo (Refused r) = OfTable r
+abbrev AnswerSo : Result Counts Refusal → Type 0
+AnswerSo (Ok c) = Unit
+AnswerSo (Err r) = OfTable r
 
 -- what holds of each that may be chosen holds of the one that is
 chosen : {A : Type 0} (P : A → Type 0) (b : Bool) (x y : A) → (b ≡ true → P x) → (b ≡ false → P y) → P (pick b x y)
@@ -75,16 +71,16 @@ run_so : (rule : ℕ → ℕ) (n : ℕ) → ((i : ℕ) → Number (rule i)) → 
 run_so rule n number l = first_so OfTable rule n (λ i m p. record { number_from = p; number_to = number i; place_below = omega arith })
 
 -- and one run after another
-then_so : (rule : ℕ → ℕ) (n : ℕ) (y : Found) → ((i : ℕ) → Number (rule i)) → n ≤ 64 → FoundSo OfTable y → FoundSo OfTable (or_else (first_refusal rule n) y)
+then_so : (rule : ℕ → ℕ) (n : ℕ) (y : Result ⊤ Refusal) → ((i : ℕ) → Number (rule i)) → n ≤ 64 → FoundSo OfTable y → FoundSo OfTable (or_else (first_refusal rule n) y)
 then_so rule n y number l q = go (first_refusal rule n) (run_so rule n number l)
   where
-    go : (x : Found) → FoundSo OfTable x → FoundSo OfTable (or_else x y)
-    go Clear p = q
-    go (At r) p = p
+    go : (x : Result ⊤ Refusal) → FoundSo OfTable x → FoundSo OfTable (or_else x y)
+    go (Ok tt) p = q
+    go (Err r) p = p
 
-answer_so : (c : Counts) (x : Found) → FoundSo OfTable x → AnswerSo (answer c x)
-answer_so c Clear p = tt
-answer_so c (At r) p = p
+answer_so : (c : Counts) (x : Result ⊤ Refusal) → FoundSo OfTable x → AnswerSo (answer c x)
+answer_so c (Ok tt) p = tt
+answer_so c (Err r) p = p
 
 -- the header: each number at place 0
 start : (k : ℕ) → 1 ≤ k → Number k → OfTable (record { number = k; place = 0 })
@@ -98,9 +94,9 @@ counts_so s n p = either AnswerSo _ _ _ (either AnswerSo _ _ _ (either AnswerSo 
     three = start 3 (omega arith) (omega arith)
 
 module _ (t : List ℕ) where
-  laid_so : (h : Checked) → AnswerSo h → AnswerSo (laid_out t h)
-  laid_so (Accepted c) p = either AnswerSo _ _ _ tt (start 4 (omega arith) (omega arith))
-  laid_so (Refused r) p = p
+  laid_so : (h : Result Counts Refusal) → AnswerSo h → AnswerSo (laid_out t h)
+  laid_so (Ok c) p = either AnswerSo _ _ _ tt (start 4 (omega arith) (omega arith))
+  laid_so (Err r) p = p
 
   head_so : AnswerSo (header_of t)
   unfolding header_of
@@ -137,10 +133,10 @@ module _ (t : List ℕ) where
       nodes : c.nodes ≤ 64
       nodes = l.nodes_range.1
 
-  after_so : (h : Checked) → header_of t ≡ h → AnswerSo h → AnswerSo (after_header t h)
-  after_so (Accepted c) e p = answer_so c (rows_onward t c) (onward_so c (header_so t c e))
-  after_so (Refused r) e p = p
+  after_so : (h : Result Counts Refusal) → header_of t ≡ h → AnswerSo h → AnswerSo (after_header t h)
+  after_so (Ok c) e p = answer_so c (rows_onward t c) (onward_so c (header_so t c e))
+  after_so (Err r) e p = p
 
-  pub refusal_of_table : (r : Refusal) → check_of t ≡ Refused r → OfTable r
+  pub refusal_of_table : (r : Refusal) → check_of t ≡ Err r → OfTable r
   unfolding check_of
   refusal_of_table r e = subst AnswerSo e (after_so (header_of t) refl head_so)

@@ -1,6 +1,5 @@
-use Rattle.std.proofs.Common.{rules}
 use Rattle.words.proofs.Answers.{without_lowest_is}
 use Rattle.words.proofs.without_lowest.Goals as goal
 
 pub returns : goal.returns
-returns c = without_lowest_is _ _ c.ranges.word.fits (search rules) c.wrapping_sub_u64.ensures.value
+returns c = without_lowest_is _ c.ranges.word.fits

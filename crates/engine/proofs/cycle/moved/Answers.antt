@@ -1,5 +1,3 @@
-use Rattle.std.proofs.Common.{replicate}
-use Rattle.table.proofs.Laws.Zeros.{zeros}
 use Rattle.engine.specs.CycleWeaks.{no_weaks}
 use Rattle.engine.proofs.CycleLaws.{weaks_left}
 use Rattle.engine.proofs.cycle.moved.Goals as goal
@@ -8,4 +6,4 @@ pub returns-then-plan-eq0 : goal.returns-then-plan-eq0
 returns-then-plan-eq0 c = λ row rows x live enter told. no_weaks c.if-plan-eq0.true
 
 pub returns : goal.returns
-returns c = λ row rows x live enter told. weaks_left (replicate 256 0) told c.upward.ensures c.downward-count.ensures (zeros 256) c.at_most_32.ensures.1 c.families.ensures
+returns c = λ row rows x live enter told. weaks_left c.downward.new.self told c.upward.ensures c.new-uses.ensures c.downward.ensures c.families.ensures

@@ -1,5 +1,5 @@
-use Rattle.engine.proofs.FamilyLaws.{lacks_high}
+use Rattle.engine.proofs.FamilyLaws.{lacks_none}
 use Rattle.engine.proofs.families.without.Goals as goal
 
-pub returns-then-ends-eq0 : goal.returns-then-ends-eq0
-returns-then-ends-eq0 c = record { each = lacks_high _ _ _ c.if-ends-eq0.true c.without_low-low.ensures }
+pub returns : goal.returns
+returns c = record { each = c.without_three-2.ensures _ (c.without_three.ensures _ (lacks_none _ _)) }

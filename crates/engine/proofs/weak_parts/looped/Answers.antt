@@ -1,5 +1,5 @@
 use Rattle.engine.proofs.WeakUp.{loop_star}
 use Rattle.engine.proofs.weak_parts.looped.Goals as goal
 
-pub returns-then-kind-eq19 : goal.returns-then-kind-eq19
-returns-then-kind-eq19 c = loop_star _ _ _ c.if-kind-eq19.true
+pub returns-then-kind-eq-STAR : goal.returns-then-kind-eq-STAR
+returns-then-kind-eq-STAR c = loop_star _ c.if-kind-eq-STAR.true

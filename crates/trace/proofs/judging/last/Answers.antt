@@ -1,14 +1,12 @@
-use Rattle.std.proofs.Common.{rules}
-use Rattle.monitor.specs.Follows.{monitor_of}
-use Rattle.trace.specs.Feeding.{fed_none}
-use Rattle.trace.proofs.Feeds.{feed, all_fed}
+use Rattle.std.proofs.Common.{refl, sym, ◌∙◌}
+use Rattle.trace.proofs.Feeds.{fed_on, all_fed, none_fed}
 use Rattle.trace.proofs.judging.last.Goals as goal
 
-pub loop-at-init : goal.loop-at-init
-loop-at-init c = (search rules, λ d. fed_none)
+pub loop-sample-init : goal.loop-sample-init
+loop-sample-init c = none_fed c.new-reader.ensures.0 c.new-reader.ensures.1 c.into_iter-sample-iterator.ensures.into_iter_gives refl
 
-pub loop-at-preserved : goal.loop-at-preserved
-loop-at-preserved c = (search rules, λ d. feed d c.loop-at-test.true (c.loop-at.invariant.1 d) c.fed-stand.ensures)
+pub loop-sample-preserved : goal.loop-sample-preserved
+loop-sample-preserved c = fed_on c.loop-sample.invariant (sym c.next.ensures.steps.0 ∙ c.in-Some.is) c.next.ensures.steps.1 c.take.ensures
 
 pub returns : goal.returns
-returns c = λ d. all_fed (monitor_of _ c.loop-at.stand c.loop-at.families) c.loop-at.invariant.0 (search rules) (c.loop-at.invariant.1 d)
+returns c = all_fed c.loop-sample.invariant (sym c.next.ensures.steps.0 ∙ c.in-None.is)

@@ -5,4 +5,4 @@ use Rattle.trace.proofs.refusals.is_undeclared.Goals as goal
 
 pub returns : goal.returns
 unfolding undeclared
-returns c = has_from_one _ _ _ _ c.has_from.ensures (has_from _ _)
+returns c = has_from_one _ _ _ _ (rw c.from.ensures at c.has_from.ensures) (has_from _ _)

@@ -4,4 +4,4 @@ use Rattle.trace.proofs.header.Header.is_right.Goals as goal
 
 pub returns : goal.returns
 unfolding header_right
-returns c = refl
+returns c = rw c.from.ensures refl
