@@ -28,6 +28,8 @@ pub struct Examined {
     pub answer: Result<Counts, Refusal>,
 }
 
+// Lines of several values are functions: to make a type of each, only to display it, is no plainer.
+
 // A name, a number and the end of the line.
 fn say_count(rt: &impl Print, name: &str, n: u32) -> io::Result<()> {
     println!(rt; "{name} {n}")

@@ -1,4 +1,4 @@
-// Bits where a test holds, and else none.
+// Bits where a test holds, and else none. A product with the test is no plainer.
 ghost use Rattle.std.specs.Prelude.{◌≡◌};
 ghost use Rattle.engine.specs.Sides.{one_if};
 

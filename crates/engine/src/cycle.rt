@@ -26,7 +26,7 @@ pub struct Expected {
     pub live: Live,
 }
 
-// What a sample does: what is expected after it; whether it breaks the property; whether nothing is expected any more.
+// What a sample does: what is expected after it; whether it breaks the property; whether nothing is expected any more. The three are facts apart.
 #[derive(Clone, Copy, PartialEq, Eq)]
 pub struct Outcome {
     pub expected: Expected,

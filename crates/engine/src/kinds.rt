@@ -1,4 +1,5 @@
 // The numbers of the kinds of rows, as document 01 has them: Booleans from 1, sequences from 16, properties from 32.
+// They are no enum: to decode one at each row costs more than the controller's goals leave.
 
 pub(crate) const TRUE: u8 = 1;
 

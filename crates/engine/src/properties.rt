@@ -28,7 +28,7 @@ pub struct Letter {
     pub hits: Hits,
 }
 
-// The rows that begin, those that stay held, whether a never breaks.
+// The rows that begin, those that stay held, whether a never breaks: facts apart.
 #[derive(Clone, Copy)]
 pub struct Pass {
     pub begin: u64,

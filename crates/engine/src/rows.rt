@@ -18,7 +18,7 @@ pub(crate) fn held(table: &[u8]) -> u64
     }
 }
 
-// Whether the bytes hold the rows of a set.
+// Whether the bytes hold the rows of a set. `Within`, which it establishes, is asked where a pass begins: one call each, for which a struct is no plainer.
 pub(crate) fn covers(table: &[u8], rows: u64) -> bool
     ensures { Tells (Within table.now rows) result }
 {

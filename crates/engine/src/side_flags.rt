@@ -21,7 +21,7 @@ impl Model for SidePart {
     ghost inverse = { λ p. record { 0 = p } };
 }
 
-// How a part is used. Contracts see its number: `use_code` of the use that it stands for.
+// How a part is used; no macro writes the `impl` for both, since the gate refuses one. Contracts see its number: `use_code` of the use that it stands for.
 #[derive(Clone, Copy, PartialEq, Eq)]
 pub(crate) struct SideUse(u8);
 

@@ -134,7 +134,7 @@ impl Parts {
         self.of[(n as usize) % 64] = part;
     }
 
-    // The parts of the Booleans, which are cells.
+    // The parts of the Booleans, which are cells. That of left sides fills another type; one function for both lines is no plainer.
     fn cells(&mut self, booleans: u64, truth: u64)
         ensures { CellsKept booleans truth self.new }
     {

@@ -146,6 +146,7 @@ impl Uses {
         }
     }
 
+    // As of `ByRow`; a type within this one is no plainer.
     fn at(&self, n: u8) -> Use
         ensures { result ≡ use_at self.now (n % 64) }
     {

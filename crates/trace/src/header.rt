@@ -22,6 +22,7 @@ impl Header {
     pub const BYTES: usize = (Self::SIZE as usize) + 4 * (Self::CYCLES as usize);
 
     // The header that stands at the start of the bytes.
+    #[tactic(auto, unfolding(crate::specs::Refusals::header_of, crate::specs::Trace::cycles_of))]
     pub fn new(bytes: &[u8]) -> Self
         ensures { result ≡ header_of bytes.now }
     {
@@ -34,6 +35,7 @@ impl Header {
     }
 
     // Whether it is that of a right trace of so many signals, which is so long.
+    #[tactic(auto, unfolding(crate::specs::Refusals::header_right))]
     pub fn is_right(self, signals: u8, length: usize) -> bool
         ensures { result ≡ header_right self signals length }
     {

@@ -20,6 +20,7 @@ pub struct Reading {
 }
 
 // The work: what a reader at a place gives.
+#[tactic(auto, using(crate::specs::Readings::reading_more, crate::specs::Readings::reading_none))]
 pub fn reading_at(bytes: &[u8], at: u32) -> Reading
     ensures { result ≡ reading_at bytes.now at }
 {

@@ -2,8 +2,7 @@
 ghost use Rattle.std.specs.Prelude.{◌≤◌, length};
 
 use files::read_full;
-use host::Packed;
-use little::u32_at;
+use little::{bytes_at, u32_at};
 use std::io;
 use std::io::Read;
 
@@ -66,11 +65,8 @@ pub(crate) struct Record<'a> {
 // Room for a trace of one cycle more than a file may hold, and for a table whose total is right modulo 65,536 only.
 pub(crate) const ROOM: usize = 66_000;
 
-pub(crate) fn u64_at(bytes: &[u8], at: u16) -> u64 {
-    let from = u32::from(at);
-    let low = u64::from(u32_at(bytes, from));
-    let high = u64::from(u32_at(bytes, from + 4));
-    low + Packed::LOW * high
+pub(crate) fn u64_at(bytes: &[u8], at: usize) -> u64 {
+    u64::from_le_bytes(bytes_at(bytes, at))
 }
 
 impl From<[u8; Head::BYTES]> for Head {

@@ -72,7 +72,7 @@ impl From<&State> for Monitor {
                 verdict: state.verdict(),
                 expected: state.expected(),
             },
-            families: array::from_fn(|i| u64_at(&state.0, (48 + 8 * i) as u16)),
+            families: array::from_fn(|i| u64_at(&state.0, 48 + 8 * i)),
         }
     }
 }

@@ -1,7 +1,7 @@
 // Counts what was compared, and shows the first differences.
 use std::fmt;
 
-// One answer that was compared.
+// One answer that was compared; whether it agrees is not told by the two numbers alone.
 #[derive(Clone, Copy)]
 pub(crate) struct Seen {
     pub(crate) expected: u64,

@@ -37,7 +37,7 @@ pub fn has_from(word: u64, index: u8) -> bool
     index < 64 && word >> index != 0
 }
 
-// The lowest number in the word; 64 where there is none.
+// The lowest number in the word; 64 where there is none. `Members` gives both ends as options; this and the three below are what it is proved by.
 pub fn lowest(word: u64) -> u8
     ensures { Lowest word result }
 {

@@ -3,7 +3,7 @@ use crate::unread::Unread;
 use std::fmt;
 use std::fmt::{Display, Write};
 
-// The status of what was not run: a file that could not be read.
+// The command's status of what was not run: a file that could not be read.
 pub(crate) const NOT_RUN: u32 = 2;
 
 // The descriptor 9. `std` opens none by its number, so the kit's crate `io` writes there.
