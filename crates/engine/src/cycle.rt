@@ -14,8 +14,8 @@ use crate::plan::Plan;
 use crate::properties::Letter;
 use crate::side_flags::SidePart;
 use crate::sides::{Down, Live, Up};
-use crate::weak_parts::Parts;
-use crate::weak_uses::Uses;
+use crate::weak_parts::{ENDS, Parts};
+use crate::weak_uses::{Use, Uses, top};
 use crate::{families, properties, rows, truths};
 
 // What a property expects of later cycles, beside the families of its weak sequences: held rows (next, |=>: owed; always,
@@ -46,7 +46,14 @@ fn moved(table: &[u8], plan: Plan, begin: u64, truth: u64, families: &mut [u64; 
     }
     let mut parts = Parts::new();
     parts.upward(table, plan.weaks, plan.booleans, truth);
-    let mut uses = Uses::new();
+    // Made here, since what a function answers is copied. The tops, none of which is read before its weak sequence is met, are not 0 and stand between the arrays
+    // that are: zeros so long that the compiler would clear them by `memset`, a name that a host in C would have to have.
+    let mut uses = Uses {
+        of: [Use::NONE; 64],
+        met: 0,
+        tops: [top(ENDS, true); 32],
+        leads: [0; 256],
+    };
     uses.downward(table, plan.weaks, plan.booleans, begin, &parts);
     families::families(&uses, &mut *families)
 }

@@ -89,7 +89,7 @@ impl Up<'_> {
     {
         match row.kind() {
             FUSE => a.fuse(self.second(row, parts)),
-            ALT => a.or(self.second(row, parts)),
+            ..=ALT => a.or(self.second(row, parts)),
             STAR => a.star(),
             _ => a,
         }

@@ -22,14 +22,22 @@ pub struct Use {
     pub go: u8,
 }
 
+impl Use {
+    pub(crate) const NONE: Use = Use {
+        place: 0,
+        into: 0,
+        go: 0,
+    };
+}
+
 // What the pass down the rows leaves: the use of each row of a sequence; the lanes that lead to the cell at each place; the lanes that end each weak
 // sequence, with bit 7 where an attempt begins; how many weak sequences were met, of which there are no more than families.
 #[derive(Drop)]
 pub struct Uses {
     pub of: [Use; 64],
-    pub leads: [u8; 256],
-    pub tops: [u8; 32],
     pub met: u8,
+    pub tops: [u8; 32],
+    pub leads: [u8; 256],
     ghost few: { met ≤ 32 },
 }
 
@@ -117,7 +125,7 @@ fn whole(w: u8, begin: bool) -> Use
 }
 
 // The lanes that end a weak sequence, and bit 7 where an attempt begins.
-fn top(act: u8, begin: bool) -> u8
+pub(crate) fn top(act: u8, begin: bool) -> u8
     ensures { Tops act begin result }
 {
     if begin {
@@ -130,21 +138,6 @@ fn top(act: u8, begin: bool) -> u8
 impl Uses {
     ghost use Rattle.engine.specs.WeakHanded.{use_at, Blank, Handed, Met};
     ghost use Rattle.engine.specs.WeakPass.{RowDone, WeaksDown};
-
-    pub(crate) fn new() -> Uses
-        ensures { Blank result }
-    {
-        Uses {
-            of: [Use {
-                place: 0,
-                into: 0,
-                go: 0,
-            }; 64],
-            leads: [0; 256],
-            tops: [0; 32],
-            met: 0,
-        }
-    }
 
     // As of `ByRow`; a type within this one is no plainer.
     fn at(&self, n: u8) -> Use

@@ -2,6 +2,7 @@
 -- Opening), and that each answer is one (Unique).
 pub mod Opens
 pub mod Follows
+pub mod Shown
 pub mod Demands
 pub mod Fed
 pub mod Opening

@@ -25,6 +25,66 @@ pub struct Stand {
     pub expected: Expected,
 }
 
+impl Stand {
+    // One cycle after n that left the property pending.
+    fn turn(
+        &mut self,
+        table: &[u8],
+        plan: Plan,
+        n: u32,
+        sample: u32,
+        families: &mut [u64; Monitor::FAMILIES],
+    ) -> Verdict
+        requires { n < count_limit }
+        ensures { Advances table.now (monitor_of plan self.old families.old) n sample (granted (verdict_of result)) (monitor_of plan self.new families.new) }
+    {
+        let first = words::with_bit(0, plan.root, n == 0);
+        let o = engine::cycle::cycle(table, plan, self.expected, first, sample, &mut *families);
+        let verdict = Verdict::at(o.broken, o.quiet, n + 1);
+        *self = Stand {
+            verdict,
+            expected: o.expected,
+        };
+        verdict
+    }
+
+    // One declared sample: a verdict already given, or refusal 14, or the new verdict.
+    fn take_declared(
+        &mut self,
+        table: &[u8],
+        plan: Plan,
+        sample: u32,
+        families: &mut [u64; Monitor::FAMILIES],
+    ) -> Result<Verdict, Refusal>
+        ensures { DeclaredIs table.now (monitor_of plan self.old families.old) sample (answer_reply result) (monitor_of plan self.new families.new) }
+    {
+        let verdict = self.verdict;
+        let Some(n) = verdict.pending() else {
+            return Ok(verdict);
+        };
+        if n == Monitor::CYCLES {
+            return Err(Cause::CyclesTooMany.at(0));
+        }
+        Ok(self.turn(table, plan, n, sample, &mut *families))
+    }
+
+    // One sample, the families lent, so that none is copied: refusal 13, or what a declared sample gives.
+    fn take(
+        &mut self,
+        table: &[u8],
+        plan: Plan,
+        sample: u32,
+        families: &mut [u64; Monitor::FAMILIES],
+    ) -> Result<Verdict, Refusal>
+        ensures { StepIs table.now (monitor_of plan self.old families.old) sample (answer_reply result) (monitor_of plan self.new families.new) }
+    {
+        if words::has_from(u64::from(sample), little::byte_at(table, 2)) {
+            return Err(Cause::SignalUndeclared.at(0));
+        }
+        self.take_declared(table, plan, sample, &mut *families)
+    }
+}
+
 // The families are those of the property's weak sequences, from the highest row.
 #[derive(Clone, Copy, PartialEq, Eq)]
 pub struct Monitor {
@@ -54,50 +114,12 @@ impl Monitor {
         }
     }
 
-    // One cycle after n that left the property pending.
-    fn turn(&mut self, table: &[u8], n: u32, sample: u32) -> Verdict
-        requires { n < count_limit }
-        ensures { Advances table.now self.old n sample (granted (verdict_of result)) self.new }
-    {
-        let first = words::with_bit(0, self.plan.root, n == 0);
-        let o = engine::cycle::cycle(
-            table,
-            self.plan,
-            self.stand.expected,
-            first,
-            sample,
-            &mut self.families,
-        );
-        let verdict = Verdict::at(o.broken, o.quiet, n + 1);
-        self.stand = Stand {
-            verdict,
-            expected: o.expected,
-        };
-        verdict
-    }
-
-    // One declared sample: a verdict already given, or refusal 14, or the new verdict.
-    fn take_declared(&mut self, table: &[u8], sample: u32) -> Result<Verdict, Refusal>
-        ensures { DeclaredIs table.now self.old sample (answer_reply result) self.new }
-    {
-        let verdict = self.stand.verdict;
-        let Some(n) = verdict.pending() else {
-            return Ok(verdict);
-        };
-        if n == Monitor::CYCLES {
-            return Err(Cause::CyclesTooMany.at(0));
-        }
-        Ok(self.turn(table, n, sample))
-    }
-
-    // One sample, in place: refusal 13, or what a declared sample gives.
+    // One sample, in place: what a step of the parts gives.
     pub fn take(&mut self, table: &[u8], sample: u32) -> Result<Verdict, Refusal>
         ensures { StepIs table.now self.old sample (answer_reply result) self.new }
     {
-        if words::has_from(u64::from(sample), little::byte_at(table, 2)) {
-            return Err(Cause::SignalUndeclared.at(0));
-        }
-        self.take_declared(table, sample)
+        self.stand
+            .take(table, self.plan, sample, &mut self.families)
     }
 }
 
@@ -171,16 +193,11 @@ pub fn step_lent(
 ) -> Told
     ensures { StepIs table.now (monitor_of plan stand families.old) sample (answer_reply result.answer) (monitor_of plan result.stand families.new) }
 {
-    let mut monitor = Monitor {
-        plan,
-        stand,
-        families: *families,
-    };
-    let answer = monitor.take(table, sample);
-    *families = monitor.families;
+    let mut after = stand;
+    let answer = after.take(table, plan, sample, &mut *families);
     Told {
         answer,
-        stand: monitor.stand,
+        stand: after,
     }
 }
 

@@ -1,7 +1,8 @@
 // A verdict of a property, and what is answered to a sample.
-ghost use Rattle.std.specs.Prelude.{◌≡◌};
+ghost use Rattle.std.specs.Prelude.{◌≡◌, Some};
 ghost use Rattle.psl.specs.Verdicts.{judged};
 ghost use Rattle.monitor.specs.Follows.{verdict_of, going_of};
+ghost use Rattle.monitor.specs.Shown.{verdict_text};
 
 use std::fmt;
 
@@ -39,6 +40,8 @@ impl Verdict {
 }
 
 impl fmt::Display for Verdict {
+    ghost output = { λ verdict. Some (verdict_text verdict) };
+
     fn fmt<W: fmt::Write>(&self, f: &mut fmt::Formatter<W>) -> fmt::Result {
         match *self {
             Verdict::Broken(cycle) => write!(f, "broken {cycle}"),

@@ -4,7 +4,6 @@ use native.Mathlib.Omega.{arith}
 use mathlib.Core.List.{List}
 use mathlib.Core.Path.{◌≡◌, refl, sym, ◌∙◌, ap, subst}
 use Rattle.std.specs.Prelude.{Some, None, Result, Ok, Err, ⊤}
-use Rattle.std.specs.Borrow.{Bor}
 use Rattle.std.specs.Iterator.{at_most, MakesProgress}
 use Rattle.std.proofs.Math.Decide.{dec_lt}
 use Rattle.psl.specs.Verdicts as Psl
@@ -65,13 +64,12 @@ pub record Fed (t file : List ℕ) (m : Monitor) (reader : TraceReader) (after :
   pub fed : FedFrom t file m reader.at after
 
 module _ {t file : List ℕ} {m : Monitor} where
-  pub none_fed : {file' : Bor (List ℕ)} {new reader : TraceReader} → new.bytes ≡ file' → new.at ≡ 0 → reader ≡ new → file ≡ file'.now
-      → Fed t file m reader m
-  none_fed {file'} {new} {reader} b z e q = rw e (record {
-    bytes = ap (λ (x : Bor (List ℕ)). x.now) b ∙ sym q;
+  pub none_fed : {reader : TraceReader} → reader.bytes.now ≡ file → reader.at ≡ 0 → Fed t file m reader m
+  none_fed {reader} b z = record {
+    bytes = b;
     within = omega arith;
     fed = subst (λ (n : ℕ). FedFrom t file m n m) (sym z) fed_none;
-  })
+  }
 
   pub fed_on : {reader reader' : TraceReader} {before after : Monitor} {x : ℕ} {reply : Reply Psl.Verdict} → Fed t file m reader before
       → gives reader ≡ Some x → reader' ≡ moved reader → StepIs t before x reply after → Fed t file m reader' after

@@ -6,18 +6,21 @@ ghost use Rattle.trace.specs.Feeding.{Last};
 
 use crate::reader::TraceReader;
 use crate::refusals::check_trace;
-use monitor::{Monitor, Opened, Verdict};
+use monitor::{Monitor, Opened, Verdict, step_lent};
 use table::Refusal;
 
-// The verdict after all samples.
-fn last(table: &[u8], trace: &[u8], mut monitor: Monitor) -> Verdict
+// The verdict after all samples. The monitor is taken apart, so that its families are stepped where they lie.
+fn last(table: &[u8], trace: &[u8], monitor: Monitor) -> Verdict
     ensures { Last table.now trace.now monitor (cycles_of trace.now) result }
 {
+    let plan = monitor.plan;
+    let mut stand = monitor.stand;
+    let mut families = monitor.families;
     let reader = TraceReader::new(trace);
     for sample in reader {
-        let _ = monitor.take(table, sample);
+        stand = step_lent(table, plan, stand, sample, &mut families).stand;
     }
-    monitor.stand.verdict
+    stand.verdict
 }
 
 pub fn judge(table: &[u8], trace: &[u8], property: u32) -> Result<Verdict, Refusal>

@@ -1,6 +1,6 @@
 use Rattle.std.proofs.Common.{refl}
 use Rattle.monitor.proofs.Turns.{turned}
-use Rattle.monitor.proofs.Monitor.turn.Goals as goal
+use Rattle.monitor.proofs.Stand.turn.Goals as goal
 
 pub returns : goal.returns
 returns c = record {
